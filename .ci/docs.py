@@ -48,23 +48,26 @@ NUMBERS = [
     ("docs/OPERATING.md", "each of at most {} new blocks", "el_chain", "MAX_FORWARD"),
     ("docs/OPERATING.md", "a weight above {} |", "el_block", "MAX_BLOCK_WEIGHT"),
     ("docs/OPERATING.md", "coins above {} satoshi", "el_tx", "MAX_MONEY"),
-    ("docs/OPERATING.md", "a table of the index beyond {} rows", "el_row_formats", "MAX_NUMBER"),
+    ("docs/OPERATING.md", "beyond its most rows, {} for blocks", "el_chain", "MAX_BLOCKS"),
+    ("docs/OPERATING.md", "for blocks and {} for each other", "el_chain", "MAX_ROWS"),
     ("docs/OPERATING.md", "or more than {} bytes would be unsent to it", "el_sockets", "UNSENT_LIMIT"),
     ("docs/OPERATING.md", "the block files in pieces of {} bytes", "el_files", "PIECE_SIZE"),
     ("docs/OPERATING.md", "at most {} pages of", "el_page_cache", "MAX_PAGES"),
     ("docs/OPERATING.md", "pages of {} bytes of them", "el_page_cache", "PAGE_BYTES"),
-    ("docs/OPERATING.md", "There are {} buckets", "el_row_formats", "BUCKET_COUNT"),
+    ("docs/OPERATING.md", "none where it asks of the same {} headers", "el_levels", "GROUP"),
+    ("docs/OPERATING.md", "was asked last is kept while the chain stays, up to {} transactions", "el_levels", "TXID_LIMIT"),
     ("docs/OPERATING.md", "A reply lists at most {} entries", "el_methods", "ENTRY_LIMIT"),
-    ("docs/OPERATING.md", "A table has at most {} rows", "el_row_formats", "MAX_NUMBER"),
+    ("docs/OPERATING.md", "The table of blocks has at most {} rows", "el_chain", "MAX_BLOCKS"),
+    ("docs/OPERATING.md", "and each other at most {};", "el_chain", "MAX_ROWS"),
     ("README.md", "It serves up to {} of them at once", "el_outside", "CLIENT_LIMIT"),
     ("README.md", "Up to {} clients at a time", "el_outside", "CLIENT_LIMIT"),
     ("README.md", "and {} subscriptions of each", "el_sessions", "SUBSCRIPTION_LIMIT"),
     ("README.md", "reorganisations of up to {} blocks", "el_chain", "MAX_BACK"),
     ("README.md", "{} connections, also silent ones", "el_outside", "CLIENT_LIMIT"),
 ]
-# Large numbers of docs/OPERATING.md that are no constant: ports, two heights, the bytes of heads, what the first move
-# writes of them, and an example.
-OTHER_NUMBERS = {"65,535", "1,024", "91,722", "91,880", "524,288", "1,703,936", "1,000,000"}
+# Large numbers of docs/OPERATING.md that are no constant: ports, two heights, the bytes of heads, numbers of buckets, and
+# an example.
+OTHER_NUMBERS = {"65,535", "1,024", "91,722", "91,880", "1,048,576", "65,536", "16,777,216", "1,000,000"}
 
 README_LINES = 150
 CRATE_README_LINES = 20

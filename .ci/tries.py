@@ -175,15 +175,20 @@ def bucket(hash_bytes):
     return int.from_bytes(hash_bytes[:2], "little")
 
 
-def heads(hashes):
+# How many bytes the number of a row has in the rows of an index, and its first file, by its format.
+OLD_WIDTH, OLD_FIRST = 4, 0
+WIDTH, FIRST = 8, 20
+
+
+def heads(hashes, width):
     """The rows of a table of heads, for hashes of which no two share a bucket."""
-    rows = [number(0)] * 65536
+    rows = [number(0, width)] * 65536
     for place, hash_bytes in enumerate(hashes):
-        rows[bucket(hash_bytes)] = number(place + 1)
+        rows[bucket(hash_bytes)] = number(place + 1, width)
     return rows
 
 
-def tables_of(blocks):
+def tables_of(blocks, width=WIDTH):
     """The rows of an index of blocks that each have a coinbase with one output alone, in one block file."""
     txids, scripts, tables, offset, supply = [], [], {t: [] for t in range(1, 9)}, 0, 0
     for height, block in enumerate(blocks):
@@ -195,31 +200,33 @@ def tables_of(blocks):
         scripts.append(script)
         supply += int.from_bytes(value, "little")
         tables[1].append(
-            block[:80] + number(0) + number(offset, 8) + number(len(block)) + number(height) + number(1)
+            block[:80] + number(0) + number(offset, 8) + number(len(block)) + number(height, width) + number(1)
             + number(supply, 8))
         tables[2].append(
-            txids[-1] + number(height) + number(81) + number(len(coinbase)) + number(height) + number(1)
-            + number(0) * 2 + number(0) * 2)
-        tables[4].append(number(height) + value + number(height) + number(0, 1) + number(0))
-        tables[6].append(script + number(0) + number(height + 1) + number(1) + value)
-        tables[8].append(number(height) + number(height) + number(0))
+            txids[-1] + number(height) + number(81) + number(len(coinbase)) + number(height, width) + number(1)
+            + number(0, width) + number(0) + number(0, width) * 2)
+        tables[4].append(number(height, width) + value + number(height, width) + number(0, 1) + number(0, width))
+        tables[6].append(script + number(0, width) + number(height + 1, width) + number(1, width) + value)
+        tables[8].append(number(height, width) * 2 + number(0, width))
         offset += 8 + len(block)
-    tables[3], tables[7] = heads(txids), heads(scripts)
+    tables[3], tables[7] = heads(txids, width), heads(scripts, width)
     return tables
 
 
-def meta_row(tables, magic):
-    """The row of the meta file: letters, format, network, and how many rows each table has."""
-    return b"ELIX" + number(1) + magic + b"".join(number(len(tables[t]), 8) for t in range(1, 9))
+def meta_row(tables, magic, width=WIDTH):
+    """The row of the meta file: letters, format, network, in format 2 the bits of a bucket's number, and how many rows
+    each table has."""
+    head = number(1) + magic if width == OLD_WIDTH else number(2) + magic + number(16)
+    return b"ELIX" + head + b"".join(number(len(tables[t]), 8) for t in range(1, 9))
 
 
-def commit(before, after, magic):
+def commit(before, after, magic, width=WIDTH):
     """The body of the redo record that makes tables of others: the meta row, and the rows that changed or came."""
     changes = b"".join(
         number(t, 1) + number(place, 8) + row
         for t in range(1, 9) for place, row in enumerate(after[t])
         if place >= len(before[t]) or row != before[t][place])
-    return meta_row(after, magic) + changes
+    return meta_row(after, magic, width) + changes
 
 
 def waiting(body):
@@ -227,13 +234,20 @@ def waiting(body):
     return b"\x01" + number(len(body), 8) + body
 
 
-def put_index(blocks, magic=MAIN, redo=b"\x00"):
+def put_index(blocks, magic=MAIN, redo=b"\x00", width=WIDTH):
     """The files of an index of blocks, and this redo file. They are made here by the form of the index's rows, and not by
-    the program."""
-    tables = tables_of(blocks)
-    files = [meta_row(tables, magic), *(b"".join(tables[t]) for t in range(1, 9)), redo]
-    for place, data in enumerate(files):
+    the program. In format 2 there is the root besides."""
+    tables = tables_of(blocks, width)
+    files = [meta_row(tables, magic, width), *(b"".join(tables[t]) for t in range(1, 9)), redo]
+    if width == WIDTH:
+        files.append(b"\x02")
+    for place, data in enumerate(files, OLD_FIRST if width == OLD_WIDTH else FIRST):
         put(f"index/{place:02}.idx", data)
+
+
+def written():
+    """The files of the index that have bytes."""
+    return {name: data for name, data in held("index").items() if data}
 
 
 def record_of_the_formats():
@@ -530,7 +544,7 @@ def no_words(program):
 # each blank, so that two blanks have an empty word between them.
 SERVE_LINE = (
     "serve --blocks a --index index --network main --client-port 50001 --node-port 8331"
-    " --pool-count 1000 --pool-bytes 2000000"
+    " --pool-count 1000 --pool-bytes 2000000 --head-bits 20"
 )
 MISTYPED_SERVE = [
     ("serve", "server"), ("serve", "Serve"), ("serve", "once"), ("serve", "serve serve"), ("serve", "serve --"),
@@ -554,6 +568,8 @@ MISTYPED_SERVE = [
     ("2000000", "0"), ("2000000", "300000001"), (" 2000000", ""), ("--pool-bytes", "--pool-byte"),
     ("2000000", "2000000 --help"), ("2000000", "2000000 -h"), ("2000000", "2000000 --version"),
     ("2000000", "2000000 --"), ("2000000", "2000000 more"),
+    ("bits 20", "bits 15"), ("bits 20", "bits 25"), ("bits 20", "bits"), ("bits 20", "bits 0x14"),
+    ("bits 20", "bits 20 --head-bits 20"), ("--head-bits 20", "--head-bits=20"), ("--head-bits", "--bits"),
 ]
 ONCE_LINE = "once --blocks a --network main"
 MISTYPED_ONCE = [
@@ -661,13 +677,16 @@ def serves_no_folder(program):
 
 
 def serves_again_over_its_index(program):
-    # the index of no blocks is a closed gate alone
+    # the index of no blocks is a meta row, the heads, a closed gate and the root
     put("a/blk00000.dat", GOOD)
+    put_index([])
+    wanted = written()
+    shutil.rmtree("index")
     os.mkdir("index")
     for _ in range(3):
         did = ask_served(program, "a", ONE)
-        if did != as_wanted((NONE_FOUND, ENDED)) or held("index") != {"09.idx": b"\0", "lock": b""}:
-            return (did, held("index")), (NONE_FOUND, ENDED)
+        if did != as_wanted((NONE_FOUND, ENDED)) or written() != wanted:
+            return (did, {name: len(data) for name, data in held("index").items()}), (NONE_FOUND, ENDED)
     return did, (NONE_FOUND, ENDED)
 
 
@@ -675,16 +694,71 @@ def files_of_an_index(program):
     # what the program writes is what the formats say of the chain, file by file; only the redo file keeps more
     put("a/blk00000.dat", GOOD)
     put_index([GENESIS, BLOCK1])
-    wanted = held("index")
+    wanted = written()
     shutil.rmtree("index")
     os.mkdir("index")
     it = Served(program)
     node = it.node()
     did = it.ends(node.asks(tip_line(BLOCK1)), node)
-    files = held("index")
-    gate = files.pop("09.idx")[:1]
-    same = {**files, "09.idx": gate} == {**{name: data for name, data in wanted.items() if data}, "lock": b""}
-    return (same, *did[1:]), (True, ENDED)
+    files = written()
+    gate = files.pop("29.idx")[:1]
+    return ({**files, "29.idx": gate} == wanted, *did[1:]), (True, ENDED)
+
+
+def index_of_format_1(program):
+    # all of it is written in format 2, whatever the root was, and nothing stays of format 1
+    os.mkdir("a")
+    for root in (None, b"", b"\x07", b"\x00\x02"):
+        put_index([GENESIS, BLOCK1])
+        wanted = {**written(), "30.idx": b"\x02" + (root or b"")[1:]}
+        shutil.rmtree("index")
+        put_index([GENESIS, BLOCK1], width=OLD_WIDTH)
+        if root is not None:
+            put("index/30.idx", root)
+        did = ask_served(program, "a", ONE)
+        if did != as_wanted((FOUND, ENDED)) or written() != wanted:
+            return (did, {name: len(data) for name, data in held("index").items()}), (FOUND, ENDED)
+        shutil.rmtree("index")
+    return did, (FOUND, ENDED)
+
+
+def index_of_format_1_whose_commit_waits(program):
+    # the first commit of all, over files that are not there
+    os.mkdir("a")
+    body = commit({t: [] for t in range(1, 9)}, tables_of([GENESIS, BLOCK1], OLD_WIDTH), MAIN, OLD_WIDTH)
+    put("index/09.idx", waiting(body) + b"what an earlier record left")
+    given = ONE + asks(BLOCK1_SCRIPT, 2)
+    return ask_served(program, "a", given), (FOUND + replies([(1, BLOCK1_TXID)], 2), ENDED)
+
+
+def index_of_format_1_behind_format_2(program):
+    # where format 2 is live, what is left of format 1 is nothing
+    os.mkdir("a")
+    put_index([GENESIS], width=OLD_WIDTH)
+    put_index([GENESIS, BLOCK1])
+    given = ONE + asks(BLOCK1_SCRIPT, 2)
+    wanted = (FOUND + replies([(1, BLOCK1_TXID)], 2), ENDED)
+    did = ask_served(program, "a", given)
+    left = sum(len(held("index")[f"{place:02}.idx"]) for place in range(10))
+    return ((did[0], left), *did[1:]), ((wanted[0], 0), wanted[1])
+
+
+def index_with_more_buckets(program):
+    # the words tell how many buckets an index has that is made; one that is there keeps its own
+    put("a/blk00000.dat", GOOD)
+    os.mkdir("index")
+    told = b""
+    for bits, line in (("18", tip_line(GENESIS)), ("16", tip_line(BLOCK1)), ("24", tip_line(BLOCK1))):
+        it = Served(program, more=["--head-bits", bits])
+        node = it.node()
+        did = it.ends(node.asks(line), node)
+        told += did[0]
+        files = held("index")
+        sizes = (files["20.idx"][12:16], len(files["23.idx"]), len(files["27.idx"]))
+        if sizes != (number(18), 8 << 18, 8 << 18):
+            return (sizes, *did[1:]), ((number(18), 8 << 18, 8 << 18), ENDED)
+    wanted = at_line(GENESIS, 0) + at_line(BLOCK1, 1) + at_line(BLOCK1, 1)
+    return (told, *did[1:]), (wanted, ENDED)
 
 
 def serves_from_an_index_made_elsewhere(program):
@@ -738,7 +812,8 @@ def index_of_a_commit_that_waits(program):
     # the first commit of all, over files that are not there
     os.mkdir("a")
     body = commit({t: [] for t in range(1, 9)}, tables_of([GENESIS, BLOCK1]), MAIN)
-    put("index/09.idx", waiting(body) + b"what an earlier record left")
+    put("index/29.idx", waiting(body) + b"what an earlier record left")
+    put("index/30.idx", b"\x02")
     given = ONE + asks(BLOCK1_SCRIPT, 2)
     return ask_served(program, "a", given), (FOUND + replies([(1, BLOCK1_TXID)], 2), ENDED)
 
@@ -766,8 +841,27 @@ def index_that_is_a_device(program):
 
 
 def index_without_room(program):
-    # a file may have 65,536 bytes here, and the first move's record is larger: nothing is acknowledged, and what was written
+    # a file may have 100 bytes here, and the first move's record is larger: nothing is acknowledged, and what was written
     # of it is no harm to a next start with room
+    put("a/blk00000.dat", GOOD)
+    put_index([])
+    limit = (100, resource.RLIM_INFINITY)
+    before = resource.getrlimit(resource.RLIMIT_FSIZE)
+    resource.setrlimit(resource.RLIMIT_FSIZE, limit)
+    it = Served(program, restore_signals=False)
+    resource.setrlimit(resource.RLIMIT_FSIZE, before)
+    node = it.node()
+    did = it.ends(node.says_all(tip_line(BLOCK1)), node)
+    wanted = (b"", because(DISK_FAILED, "index file index/29.idx", "File too large (os error 27)"))
+    if did != as_wanted(wanted):
+        return did, wanted
+    it = Served(program)
+    node = it.node()
+    return it.ends(node.asks(tip_line(BLOCK1)), node), (at_line(BLOCK1, 1), ENDED)
+
+
+def index_without_room_for_its_heads(program):
+    # an index can't be made, and what was written of it is no harm to a next start with room
     put("a/blk00000.dat", GOOD)
     os.mkdir("index")
     limit = (65_536, resource.RLIM_INFINITY)
@@ -775,9 +869,8 @@ def index_without_room(program):
     resource.setrlimit(resource.RLIMIT_FSIZE, limit)
     it = Served(program, restore_signals=False)
     resource.setrlimit(resource.RLIMIT_FSIZE, before)
-    node = it.node()
-    did = it.ends(node.says_all(tip_line(BLOCK1)), node)
-    wanted = (b"", because(DISK_FAILED, "index file index/09.idx", "File too large (os error 27)"))
+    did = it.ends(b"")
+    wanted = (b"", because(DISK_FAILED, "index file index/23.idx", "File too large (os error 27)"))
     if did != as_wanted(wanted):
         return did, wanted
     it = Served(program)
@@ -821,8 +914,8 @@ def index_that_may_not_be_read(program):
     put("index/lock", b"")
     for name in os.listdir("index"):
         os.chmod(f"index/{name}", 0o666)
-    os.chmod("index/08.idx", 0)
-    return runs_without_rights(program), (b"", because(DISK_FAILED, "index file index/08.idx", NO_RIGHTS))
+    os.chmod("index/28.idx", 0)
+    return runs_without_rights(program), (b"", because(DISK_FAILED, "index file index/28.idx", NO_RIGHTS))
 
 
 def index_without_rights(program):
@@ -881,13 +974,16 @@ def folder_that_another_program_holds(program):
 def index_that_is_cut(program):
     # an open gate and two of the eight bytes of a length; a body of three bytes; a meta row, and a table, one byte short
     put("a/blk00000.dat", GOOD)
-    for name, keeps in (("09.idx", b"\x01\x05\x00"), ("09.idx", waiting(b"abc")), ("00.idx", None), ("08.idx", None)):
-        put_index([GENESIS])
-        put(f"index/{name}", held("index")[name][:-1] if keeps is None else keeps)
-        before = held("index")
-        did = ask_served(program, "a", ONE)
-        if did != as_wanted((b"", BAD_INDEX)) or held("index") != {**before, "lock": b""}:
-            break
+    for width, first in ((OLD_WIDTH, OLD_FIRST), (WIDTH, FIRST)):
+        for place, keeps in ((9, b"\x01\x05\x00"), (9, waiting(b"abc")), (0, None), (8, None)):
+            put_index([GENESIS], width=width)
+            name = f"{first + place:02}.idx"
+            put(f"index/{name}", held("index")[name][:-1] if keeps is None else keeps)
+            before = written()
+            did = ask_served(program, "a", ONE)
+            if did != as_wanted((b"", BAD_INDEX)) or written() != before:
+                return (name, did), (b"", BAD_INDEX)
+            shutil.rmtree("index")
     return did, (b"", BAD_INDEX)
 
 
@@ -1880,6 +1976,10 @@ CASES = [
     serves_again_over_its_index,
     serves_from_an_index_made_elsewhere,
     files_of_an_index,
+    index_of_format_1,
+    index_of_format_1_whose_commit_waits,
+    index_of_format_1_behind_format_2,
+    index_with_more_buckets,
     serves_from_the_record_of_the_formats,
     index_of_another_network,
     index_of_another_chain,
@@ -1888,6 +1988,7 @@ CASES = [
     index_in_a_journal,
     index_that_is_a_device,
     index_without_room,
+    index_without_room_for_its_heads,
     index_without_a_folder,
     index_that_is_no_folder,
     index_that_cannot_be_written,

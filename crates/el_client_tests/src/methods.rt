@@ -13,7 +13,7 @@ use el_plain::PlainLedger;
 use el_pool::Pool;
 use el_replies::{LineReply, reply_line};
 use el_sessions::{Session, Subs};
-use el_side::Holdings;
+use el_side::{Caches, Holdings};
 use el_tx::{block_hash, encode_header};
 use std::alloc::Global;
 use std::test::Fail;
@@ -371,6 +371,7 @@ pub struct World {
     pub ledger: PlainLedger,
     pub archive: MemArchive,
     pub holdings: Holdings,
+    pub caches: Caches,
     pub session: Session,
 }
 
@@ -472,6 +473,7 @@ pub fn world_of(alloc: Global, list: &[Bytes], failing: u64) -> Option<World> {
             magic: MAGIC,
             pool: Pool::new(alloc, LIMITS),
         },
+        caches: Caches::new(alloc),
         session: Session {
             version: None,
             headers: false,
@@ -493,6 +495,7 @@ pub fn reply(alloc: Global, world: &mut World, line: &[u8]) -> Option<LineReply>
         &mut world.ledger,
         &mut world.archive,
         &world.holdings,
+        &mut world.caches,
         &mut world.session,
         line,
     )

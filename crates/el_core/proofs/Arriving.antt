@@ -14,6 +14,7 @@ use Rattle.el_world.specs.Run as run
 use Rattle.el_world.specs.Run.{Turns}
 use Rattle.el_lines.proofs.Cuts.{either, pieces}
 use Rattle.el_lines.specs.LineStates.{IsAt}
+use Rattle.el_side.specs.Caching.{CachesStand}
 use Rattle.el_core.specs.State.{State, ClientState, IsIdle, IsMet, HearsLeft, in_order, losing, IsSession, Rising, SessionsAre, Tellings, NoneWaits, NodeLeaves, Stands, is_numbered}
 use Rattle.el_core.specs.Arrivals.{TookArrival, IsAfterArrival, Quietly, none, joined, departed, gone_from}
 use Rattle.el_core.specs.within.Clients.{IsFresh, Opens, node, joins as adds, one_more, Hears, nobody, client, Keeps, IsFed, IsPlace, replaced}
@@ -324,7 +325,7 @@ module _ {G : Type 0} (stands : G → Chain → Type 0) where
           found = ap (λ (u : State G). u.holdings.tree) same ∙ stood.found;
           ahead = ap (λ (u : State G). u.ahead) same ∙ stood.ahead;
           start = stood.start;
-          set = rw (ap (λ (u : State G). u.holdings) same) stood.set;
+          set = rw (ap (λ (u : State G). u.holdings) same, ap (λ (u : State G). u.caches) same) stood.set;
           ordered = map orders (added_lines node_limit world.heard bytes);
           node = record {
             limit = limit ∙ n.limit;
@@ -345,15 +346,15 @@ module _ {G : Type 0} (stands : G → Chain → Type 0) where
       })
 
   -- before any arrival
-  pub new_stands : (s : State G) (sure : Bool) (chain : Chain) (magic : List ℕ) (found : List Node) (files : ℕ → List ℕ) → (sure ≡ true → stands s.ledger chain) → s.holdings.magic ≡ magic → s.holdings.tree ≡ found → s.ahead ≡ []
+  pub new_stands : (s : State G) (sure : Bool) (chain : Chain) (magic : List ℕ) (found : List Node) (files : ℕ → List ℕ) → (sure ≡ true → stands s.ledger chain) → (sure ≡ true → CachesStand s.caches chain chain) → s.holdings.magic ≡ magic → s.holdings.tree ≡ found → s.ahead ≡ []
       → s.holdings.pool.entries ≡ [] → s.clients ≡ [] → s.speaker ≡ None → s.surplus ≡ None → s.before ≡ None → s.node.limit ≡ node_limit → IsAt s.node [] 0 → Stands stands s (model.initial_world sure chain magic s.holdings.pool.limits found files) []
-  new_stands s sure chain magic found files stood m f a none_kept c sp u b limit at' = record {
+  new_stands s sure chain magic found files stood kept m f a none_kept c sp u b limit at' = record {
     chain = stood;
     magic = m;
     found = f;
     ahead = a;
     start = chain;
-    set = record { stood = λ e. rw none_kept (record { sifted = refl; are = refl; once = tt }); beside = λ e. tt; still = λ e. refl; limits = refl };
+    set = record { stood = λ e. rw none_kept (record { sifted = refl; are = refl; once = tt }); computed = kept; still = λ e. refl; limits = refl };
     ordered = [];
     node = record { limit = limit; given = 0; at = at'; few = omega arith; left_is = refl };
     said = [];

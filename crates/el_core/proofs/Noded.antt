@@ -4,9 +4,9 @@ use Rattle.std.specs.List.{AllByRecursion, slice_get}
 use Rattle.el_base.specs.declared.hash.Hash32.{Hash32}
 use Rattle.std.proofs.lemmas.Option.{slice_get_within}
 use Rattle.el_outside.specs.Counts.{CountsOnly, RoseBy}
-use Rattle.el_outside.specs.Devices as device
-use Rattle.el_outside.specs.Devices.{Device}
-use Rattle.el_outside.proofs.Devices.{all_rose_none, rose_of, rose_still}
+use Rattle.el_side.specs.Deeds as deed
+use Rattle.el_side.specs.Deeds.{Deed}
+use Rattle.el_side.proofs.Deeds.{all_rose_none, rose_of, rose_still}
 use Rattle.el_outside.proofs.Traces.{all_grow_none}
 use Rattle.el_chain.specs.declared.moves.Plan.{Plan}
 use Rattle.el_chain.specs.declared.node.Node.{Node}
@@ -87,7 +87,7 @@ module _ {G A : Type 0} (of : Ghosts G A) where
         stood = λ m. moved;
         losses = [];
         fails = by_memory refl refl;
-        rose = λ of_link. all_rose_none (failed_beneath of of_link (beneath old files));
+        rose = λ of_link of_relay. all_rose_none (failed_beneath of of_link of_relay (beneath old files));
       }
 
   -- nothing was done for a side that is unsure either
@@ -95,7 +95,7 @@ module _ {G A : Type 0} (of : Ghosts G A) where
   fails_still old files chain again = record {
     losses = [];
     fails = by_memory refl refl;
-    rose = λ of_link. all_rose_none (failed_beneath of of_link (beneath old files));
+    rose = λ of_link of_relay. all_rose_none (failed_beneath of of_link of_relay (beneath old files));
   }
 
   -- what was lost in a step that failed
@@ -105,24 +105,24 @@ module _ {G A : Type 0} (of : Ghosts G A) where
       by : (e : QueryFault) → RoseWith again (λ n. RoseBy (of.files.faults was.files) (of.files.faults now.files) n)
           → CountsOnly {T = Step} (of.ledger.faults was.ledger) (of.ledger.faults now.ledger) fault.DiskFailed (Err e) → Fails of was now chain again e
       by fault.DiskFailed (inl none) counts = record {
-        losses = device.disk ∷ [];
+        losses = deed.lost deed.disk ∷ [];
         fails = by_disk refl refl;
-        rose = λ of_link. rose_of of_link _ _ _ _ (device.disk ∷ []) refl none (counts.counted refl);
+        rose = λ of_link of_relay. rose_of of_link of_relay _ _ _ _ (deed.lost deed.disk ∷ []) refl refl none (counts.counted refl);
       }
       by fault.DiskFailed (inr one) counts = record {
-        losses = device.archive ∷ device.disk ∷ [];
+        losses = deed.lost deed.archive ∷ deed.lost deed.disk ∷ [];
         fails = in_sift one.0 refl refl refl;
-        rose = λ of_link. rose_of of_link _ _ _ _ (device.archive ∷ device.disk ∷ []) refl one.1 (counts.counted refl);
+        rose = λ of_link of_relay. rose_of of_link of_relay _ _ _ _ (deed.lost deed.archive ∷ deed.lost deed.disk ∷ []) refl refl one.1 (counts.counted refl);
       }
       by fault.Memory (inl none) counts = record {
         losses = [];
         fails = by_memory refl refl;
-        rose = λ of_link. rose_of of_link _ _ _ _ [] refl none (rose_still _ _ (counts.others_uncounted (λ e. let bad = e in cc)));
+        rose = λ of_link of_relay. rose_of of_link of_relay _ _ _ _ [] refl refl none (rose_still _ _ (counts.others_uncounted (λ e. let bad = e in cc)));
       }
       by fault.Memory (inr one) counts = record {
-        losses = device.archive ∷ [];
+        losses = deed.lost deed.archive ∷ [];
         fails = untold one.0 refl refl refl;
-        rose = λ of_link. rose_of of_link _ _ _ _ (device.archive ∷ []) refl one.1 (rose_still _ _ (counts.others_uncounted (λ e. let bad = e in cc)));
+        rose = λ of_link of_relay. rose_of of_link of_relay _ _ _ _ (deed.lost deed.archive ∷ []) refl refl one.1 (rose_still _ _ (counts.others_uncounted (λ e. let bad = e in cc)));
       }
 
   pub step_still : (old : G) (files : A) → of.ledger.is_live old → NodeKeeps of (beneath old files) (beneath old files) (Err fault.Memory)
@@ -174,18 +174,18 @@ module _ {G A : Type 0} (of : Ghosts G A) where
   -- ---- a line that has begun
 
   pub stops_begun : (s mid : State G) (new : G) (before after : A) (tip : Option Hash32) (e : LineEvent) (why : QueryFault) → mid ≡ begun_at tip s
-      → ((side : Side) (start : Chain) → IsSure side → IsAt of (beneath mid.ledger before) mid.holdings side start → IsFrom mid.holdings side → StopsAt of (beneath mid.ledger before) (beneath new after) side.chain false (IsFirstMove side e) why)
-      → (side : Side) (start : Chain) → IsSure side → IsAt of (beneath s.ledger before) s.holdings side start → IsFrom s.holdings side → StopsAt of (beneath s.ledger before) (beneath new after) side.chain false (IsFirstMove side e) why
+      → ((side : Side) (start : Chain) → IsSure side → IsAt of (beneath mid.ledger before) mid.holdings mid.caches side start → IsFrom mid.holdings side → StopsAt of (beneath mid.ledger before) (beneath new after) side.chain false (IsFirstMove side e) why)
+      → (side : Side) (start : Chain) → IsSure side → IsAt of (beneath s.ledger before) s.holdings s.caches side start → IsFrom s.holdings side → StopsAt of (beneath s.ledger before) (beneath new after) side.chain false (IsFirstMove side e) why
   stops_begun s mid new before after tip e why same stops =
-      subst (λ (m : State G). (side : Side) (start : Chain) → IsSure side → IsAt of (beneath m.ledger before) m.holdings side start → IsFrom m.holdings side → StopsAt of (beneath m.ledger before) (beneath new after) side.chain false (IsFirstMove side e) why) same stops
+      subst (λ (m : State G). (side : Side) (start : Chain) → IsSure side → IsAt of (beneath m.ledger before) m.holdings m.caches side start → IsFrom m.holdings side → StopsAt of (beneath m.ledger before) (beneath new after) side.chain false (IsFirstMove side e) why) same stops
 
   pub led_begun : (s mid : State G) (before : A) (tip : Option Hash32) (e : LineEvent) (left : StepLeft G A) → mid ≡ begun_at tip s
-      → ((side : Side) (start : Chain) → IsAt of (beneath mid.ledger before) mid.holdings side start → IsFrom mid.holdings side
+      → ((side : Side) (start : Chain) → IsAt of (beneath mid.ledger before) mid.holdings mid.caches side start → IsFrom mid.holdings side
       → Leads of (OrdersLine of.files side e) side start (record left { was = beneath mid.ledger before }))
-      → (side : Side) (start : Chain) → IsAt of (beneath s.ledger before) s.holdings side start → IsFrom s.holdings side
+      → (side : Side) (start : Chain) → IsAt of (beneath s.ledger before) s.holdings s.caches side start → IsFrom s.holdings side
       → Leads of (OrdersLine of.files side e) side start (record left { was = beneath s.ledger before })
   led_begun s mid before tip e left same led =
-      subst (λ (m : State G). (side : Side) (start : Chain) → IsAt of (beneath m.ledger before) m.holdings side start → IsFrom m.holdings side
+      subst (λ (m : State G). (side : Side) (start : Chain) → IsAt of (beneath m.ledger before) m.holdings m.caches side start → IsFrom m.holdings side
       → Leads of (OrdersLine of.files side e) side start (record left { was = beneath m.ledger before })) same led
 
   pub fails_begun : (s mid : State G) (new : G) (before after : A) (tip : Option Hash32) (chain : Chain) (why : QueryFault) → mid ≡ begun_at tip s → Fails of (beneath mid.ledger before) (beneath new after) chain false why
@@ -196,7 +196,7 @@ module _ {G A : Type 0} (of : Ghosts G A) where
   keeps_begun s mid new before after tip result same keeps = subst (λ (m : State G). NodeKeeps of (beneath m.ledger before) (beneath new after) result) same keeps
 
   -- What is known of a step of the node, which leaves the clients as they were: all of them wait.
-  pub record NodeTurned (leads : NodeAnswer → List Device → Side → Type 0) (old new : State G) (before after : A) (world : World) (left : List Event) (o : Outs) : Type 0 where
+  pub record NodeTurned (leads : NodeAnswer → List Deed → Side → Type 0) (old new : State G) (before after : A) (world : World) (left : List Event) (o : Outs) : Type 0 where
     pub stood : Stands of.ledger.stands old world left
     pub answered : Answered of leads (serving old before) (serving new after) world.side stood.start o
     pub magic : new.holdings.magic ≡ old.holdings.magic
@@ -211,7 +211,7 @@ module _ {G A : Type 0} (of : Ghosts G A) where
   to_node_goes o text next surplus is = rw is (inl refl, tt)
 
   -- `base` and `start` are as the turn began, `old` and `world` as the step began
-  built : (leads : NodeAnswer → List Device → Side → Type 0) (base old new : State G) (before after : A) (start world : World) (left : List Event) (o : Outs) (r : NodeTurned leads old new before after world left o)
+  built : (leads : NodeAnswer → List Deed → Side → Type 0) (base old new : State G) (before after : A) (start world : World) (left : List Event) (o : Outs) (r : NodeTurned leads old new before after world left o)
       (done ordered : List Event) → old.ledger ≡ base.ledger → world.side ≡ start.side → left ≡ done ++ (ordered ++ r.stood.said)
       → OneTurn of.files start done (outs_of o) r.answered.led.losses (record world { side = r.answered.led.next })
       → ((q : ℕ) → old.speaker ≡ Some q → (ordered ≡ []) × NoneWaits world.sessions) → ((q : ℕ) → old.surplus ≡ Some q → (ordered ≡ []) × NoneWaits world.sessions)

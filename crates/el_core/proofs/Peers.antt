@@ -4,7 +4,7 @@ use Rattle.std.specs.Prelude.{MatchBool, IfSome, IfNone, find}
 use Rattle.std.specs.List.{AllByRecursion, AllZip}
 use Rattle.std.proofs.lemmas.Option.{slice_get_within}
 use Rattle.el_base.specs.declared.memory.OutOfMemory.{OutOfMemory}
-use Rattle.el_outside.specs.Devices.{Device}
+use Rattle.el_side.specs.Deeds.{Deed}
 use Rattle.el_outside.specs.Files.{AllGrow}
 use Rattle.el_model.specs.LedgerCalls.{Moved}
 use Rattle.el_side.specs.Beneath.{Ghosts, Lost, beneath}
@@ -17,6 +17,7 @@ use Rattle.el_replies.specs.declared.line.LineReply.{LineReply}
 use Rattle.el_subs.specs.Told as status_told
 use Rattle.el_subs.specs.Told.{status}
 use Rattle.el_side.specs.declared.holdings.Holdings.{Holdings}
+use Rattle.el_side.specs.Caching.{CachesStand}
 use Rattle.el_side.specs.Side.{Side, IsSure}
 use Rattle.el_world.specs.World as model
 use Rattle.el_world.specs.World.{World, Session, Event, IsStill, AllTold, joins, says, orders, leaves, Takes, Outs, Comes, outs_of_reply, after_reply, nothing, closes_long, closes_memory, closes_surplus, is_client, is_peer, without_client, line_limit}
@@ -137,6 +138,7 @@ module _ {G A : Type 0} (of : Ghosts G A) where
     pub all_told : AllTold world
     pub moved : IsSure world.side → Moved of.ledger old.ledger new.ledger world.side.chain world.side.chain
     pub holdings : new.holdings ≡ old.holdings
+    pub caches : IsSure world.side → CachesStand new.caches stood.start world.side.chain
     pub ahead : new.ahead ≡ old.ahead
     pub node : new.node ≡ old.node
     pub before : new.before ≡ old.before
@@ -154,7 +156,7 @@ module _ {G A : Type 0} (of : Ghosts G A) where
     found = ap (λ (h : Holdings). h.tree) r.holdings ∙ r.stood.found;
     ahead = r.ahead ∙ r.stood.ahead;
     start = r.stood.start;
-    set = rw r.holdings r.stood.set;
+    set = record { stood = λ sure. rw r.holdings (r.stood.set.stood sure); computed = r.caches; still = r.stood.set.still; limits = rw r.holdings r.stood.set.limits };
     ordered = [];
     node = rw r.node (subst (λ (es : List Event). NodeLeaves old.node world.heard es) r.none_left r.stood.node);
     said = rest;
@@ -167,7 +169,7 @@ module _ {G A : Type 0} (of : Ghosts G A) where
   }
 
   built : (old new : State G) (before after : A) (world : World) (left : List Event) (o : Outs) (r : Beside old new world left) (told : of.files.tells → AllGrow world.side.files (of.files.bytes after)) (ss : List Session)
-      (done rest : List Event) (losses : List Device) → left ≡ done ++ rest → OneTurn of.files world done o losses (record world { sessions = ss }) → SessionsAre new.clients new.speaker new.surplus ss rest
+      (done rest : List Event) (losses : List Deed) → left ≡ done ++ rest → OneTurn of.files world done o losses (record world { sessions = ss }) → SessionsAre new.clients new.speaker new.surplus ss rest
       → ((q : ℕ) → new.speaker ≡ Some q → NoneWaits ss) → new.surplus ≡ None → Tellings world.side r.stood.start old.touched ss
       → AllByRecursion (GoesTo (record world { sessions = ss }) new.surplus o.closing) o.messages → Lost of (beneath old.ledger before) (beneath new.ledger after) losses
       → TookTurn of (serving old before) (serving new after) world left o
@@ -205,7 +207,7 @@ module _ {G A : Type 0} (of : Ghosts G A) where
 
   -- the client is closed, with these events done
   goes : (old new : State G) (before after : A) (world : World) (left : List Event) (o : Outs) (r : Beside old new world left) (told : of.files.tells → AllGrow world.side.files (of.files.bytes after)) (p i : ℕ) (c : ClientState) (w : Speaking old world r.stood.said p i c)
-      (done rest : List Event) (losses : List Device) → left ≡ done ++ rest → OneTurn of.files world done o losses (without_client p world) → AllVoid (filter (λ (y : Session). not (is_peer p y)) world.sessions) rest
+      (done rest : List Event) (losses : List Deed) → left ≡ done ++ rest → OneTurn of.files world done o losses (without_client p world) → AllVoid (filter (λ (y : Session). not (is_peer p y)) world.sessions) rest
       → new.clients ≡ replaced i None old.clients → new.speaker ≡ None → new.surplus ≡ None → ((next : World) → AllByRecursion (GoesTo next None o.closing) o.messages) → Lost of (beneath old.ledger before) (beneath new.ledger after) losses
       → TookTurn of (serving old before) (serving new after) world left o
   goes old new before after world left o r told p i c w done rest losses whole turn void clients speaker unused sends rose =
@@ -219,7 +221,7 @@ module _ {G A : Type 0} (of : Ghosts G A) where
 
   -- the client stays with this session, and these events are left
   stays : (old new : State G) (before after : A) (world : World) (left : List Event) (o : Outs) (r : Beside old new world left) (told : of.files.tells → AllGrow world.side.files (of.files.bytes after)) (p i : ℕ) (c now : ClientState) (x : Session) (w : Speaking old world r.stood.said p i c)
-      (done rest : List Event) (losses : List Device) → x.peer ≡ w.session.peer → x.waits ≡ w.session.waits → (IsSure world.side → status_told.AllTold (status world.side.chain world.side.kept) x.client.subs) → left ≡ done ++ rest → OneTurn of.files world done o losses (record world { sessions = replaced i (Some x) world.sessions })
+      (done rest : List Event) (losses : List Deed) → x.peer ≡ w.session.peer → x.waits ≡ w.session.waits → (IsSure world.side → status_told.AllTold (status world.side.chain world.side.kept) x.client.subs) → left ≡ done ++ rest → OneTurn of.files world done o losses (record world { sessions = replaced i (Some x) world.sessions })
       → IsSession (Some p) rest now x → new.clients ≡ replaced i (Some now) old.clients → new.speaker ≡ Some p → new.surplus ≡ None
       → AllByRecursion (GoesTo (record world { sessions = replaced i (Some x) world.sessions }) None o.closing) o.messages → Lost of (beneath old.ledger before) (beneath new.ledger after) losses
       → TookTurn of (serving old before) (serving new after) world left o
@@ -245,7 +247,7 @@ module _ {G A : Type 0} (of : Ghosts G A) where
 
   -- it is closed after its next event
   closed_step : (old new : State G) (before after : A) (world : World) (left : List Event) (o : Outs) (r : Beside old new world left) (told : of.files.tells → AllGrow world.side.files (of.files.bytes after)) (p i : ℕ) (c : ClientState) (b : LineState)
-      (e : LineEvent) (losses : List Device) (w : Speaking old world r.stood.said p i c) → c.peer ≡ p → c.lost ≡ false → Gives c.buffer e b → new.clients ≡ replaced i None old.clients → new.speaker ≡ None → new.surplus ≡ None
+      (e : LineEvent) (losses : List Deed) (w : Speaking old world r.stood.said p i c) → c.peer ≡ p → c.lost ≡ false → Gives c.buffer e b → new.clients ≡ replaced i None old.clients → new.speaker ≡ None → new.surplus ≡ None
       → Takes of.files world (says p e) o losses (without_client p world) → ((next : World) → AllByRecursion (GoesTo next None o.closing) o.messages) → Lost of (beneath old.ledger before) (beneath new.ledger after) losses
       → TookTurn of (serving old before) (serving new after) world left o
   closed_step old new before after world left o r told p i c b e losses w peer_is kept gives clients speaker unused takes sends rose =
@@ -267,14 +269,14 @@ module _ {G A : Type 0} (of : Ghosts G A) where
       (if_true _ _ (is_client p world) there (is, refl, refl)) (λ next. rw is tt) still
 
   -- what its session's line comes to is what the line comes to
-  line_takes : (old : State G) (world : World) (said : List Event) (o : Outs) (p i : ℕ) (c : ClientState) (w : Speaking old world said p i c) (bytes : List ℕ) (losses : List Device) (next : World)
+  line_takes : (old : State G) (world : World) (said : List Event) (o : Outs) (p i : ℕ) (c : ClientState) (w : Speaking old world said p i c) (bytes : List ℕ) (losses : List Deed) (next : World)
       → model.IsAnswered of.files.tells world p bytes w.session o losses next → Takes of.files world (says p (line bytes)) o losses next
   line_takes old world said o p i c w bytes losses next answered =
       rw (one_found p world.sessions i w.session w.are.rising w.session_at w.peer) answered
 
   -- no memory was found for its line
   starved_step : (old new : State G) (before after : A) (world : World) (left : List Event) (o : Outs) (r : Beside old new world left) (told : of.files.tells → AllGrow world.side.files (of.files.bytes after)) (p i : ℕ) (c : ClientState) (b : LineState)
-      (bytes : List ℕ) (now : known.Session) (losses : List Device) (e : OutOfMemory) (w : Speaking old world r.stood.said p i c) → c.peer ≡ p → c.lost ≡ false → Gives c.buffer (line bytes) b
+      (bytes : List ℕ) (now : known.Session) (losses : List Deed) (e : OutOfMemory) (w : Speaking old world r.stood.said p i c) → c.peer ≡ p → c.lost ≡ false → Gives c.buffer (line bytes) b
       → new.clients ≡ replaced i None old.clients → new.speaker ≡ None → new.surplus ≡ None
       → Comes of.files.tells world.side bytes c.session losses now (Err e) → o ≡ closes_memory p → Lost of (beneath old.ledger before) (beneath new.ledger after) losses
       → TookTurn of (serving old before) (serving new after) world left o
@@ -285,7 +287,7 @@ module _ {G A : Type 0} (of : Ghosts G A) where
 
   -- no memory was found to keep count of what it subscribed to
   uncounted_step : (old new : State G) (before after : A) (world : World) (left : List Event) (o : Outs) (r : Beside old new world left) (told : of.files.tells → AllGrow world.side.files (of.files.bytes after)) (p i : ℕ) (c : ClientState) (b : LineState)
-      (bytes : List ℕ) (now : known.Session) (losses : List Device) (reply : LineReply) (w : Speaking old world r.stood.said p i c) → c.peer ≡ p → c.lost ≡ false → Gives c.buffer (line bytes) b
+      (bytes : List ℕ) (now : known.Session) (losses : List Deed) (reply : LineReply) (w : Speaking old world r.stood.said p i c) → c.peer ≡ p → c.lost ≡ false → Gives c.buffer (line bytes) b
       → new.clients ≡ replaced i None old.clients → new.speaker ≡ None → new.surplus ≡ None
       → Comes of.files.tells world.side bytes c.session losses now (Ok reply) → HasAdded c.session.subs now.subs → o ≡ closes_memory p → Lost of (beneath old.ledger before) (beneath new.ledger after) losses
       → TookTurn of (serving old before) (serving new after) world left o
@@ -304,7 +306,7 @@ module _ {G A : Type 0} (of : Ghosts G A) where
 
   -- it gets its reply, after which it is closed
   version_step : (old new : State G) (before after : A) (world : World) (left : List Event) (o : Outs) (r : Beside old new world left) (told : of.files.tells → AllGrow world.side.files (of.files.bytes after)) (p i : ℕ) (c : ClientState) (b : LineState)
-      (bytes : List ℕ) (now : known.Session) (losses : List Device) (reply : LineReply) (w : Speaking old world r.stood.said p i c) → c.peer ≡ p → c.lost ≡ false → Gives c.buffer (line bytes) b
+      (bytes : List ℕ) (now : known.Session) (losses : List Deed) (reply : LineReply) (w : Speaking old world r.stood.said p i c) → c.peer ≡ p → c.lost ≡ false → Gives c.buffer (line bytes) b
       → new.clients ≡ replaced i None old.clients → new.speaker ≡ None → new.surplus ≡ None
       → Comes of.files.tells world.side bytes c.session losses now (Ok reply) → reply.closes ≡ true → o ≡ outs_of_reply p reply → Lost of (beneath old.ledger before) (beneath new.ledger after) losses
       → TookTurn of (serving old before) (serving new after) world left o
@@ -317,7 +319,7 @@ module _ {G A : Type 0} (of : Ghosts G A) where
 
   -- it gets its reply, and stays
   reply_step : (old new : State G) (before after : A) (world : World) (left : List Event) (o : Outs) (r : Beside old new world left) (told : of.files.tells → AllGrow world.side.files (of.files.bytes after)) (p i : ℕ) (c : ClientState) (b : LineState)
-      (bytes : List ℕ) (now : known.Session) (losses : List Device) (reply : LineReply) (w : Speaking old world r.stood.said p i c) → c.peer ≡ p → c.lost ≡ false → b.limit ≡ c.buffer.limit → Gives c.buffer (line bytes) b
+      (bytes : List ℕ) (now : known.Session) (losses : List Deed) (reply : LineReply) (w : Speaking old world r.stood.said p i c) → c.peer ≡ p → c.lost ≡ false → b.limit ≡ c.buffer.limit → Gives c.buffer (line bytes) b
       → new.clients ≡ replaced i (Some (record c { buffer = b; session = now })) old.clients → new.speaker ≡ Some p → new.surplus ≡ None
       → Comes of.files.tells world.side bytes c.session losses now (Ok reply) → reply.closes ≡ false → o ≡ outs_of_reply p reply → Lost of (beneath old.ledger before) (beneath new.ledger after) losses
       → TookTurn of (serving old before) (serving new after) world left o
@@ -457,7 +459,7 @@ module _ {G A : Type 0} (of : Ghosts G A) where
   }
 
   -- no line of the one that speaks is left
-  waited : (tells : Type 0) (side : Side) (rose : List Device → Type 0) (old new : State G) (world : World) (left : List Event) (r : Beside old new world left) (p i : ℕ) (c : ClientState) (now : Option ClientState) (w : Speaking old world r.stood.said p i c)
+  waited : (tells : Type 0) (side : Side) (rose : List Deed → Type 0) (old new : State G) (world : World) (left : List Event) (r : Beside old new world left) (p i : ℕ) (c : ClientState) (now : Option ClientState) (w : Speaking old world r.stood.said p i c)
       → new.clients ≡ replaced i now old.clients → new.speaker ≡ None → new.surplus ≡ None → ClientTurn tells side rose c None now → IsDone of.ledger.stands of.files world left new
   waited tells side rose old new world left r p i c now w clients speaker unused (loses o' lost some is gone_is still) = absurd (no_outs o' (sym some))
   waited tells side rose old new world left r p i c now w clients speaker unused (departs o' kept next_line some is gone_is still) = absurd (no_outs o' (sym some))
@@ -480,7 +482,7 @@ module _ {G A : Type 0} (of : Ghosts G A) where
       done_so old new world left r (rw (clients ∙ ap (λ (n : Option ClientState). replaced i n old.clients) now_is) are') speaker unused (rw none_after tt)
 
   -- where a turn finds nothing to do, nothing is left
-  pub peers_none : (tells : Type 0) (side : Side) (rose : List Device → Type 0) (old new : State G) (world : World) (left : List Event) (o : Option code.Outs) (r : Beside old new world left)
+  pub peers_none : (tells : Type 0) (side : Side) (rose : List Deed → Type 0) (old new : State G) (world : World) (left : List Event) (o : Option code.Outs) (r : Beside old new world left)
       → PeersTurn tells side rose old o new → IfNone o (IsDone of.ledger.stands of.files world left new)
   peers_none tells side rose old new world left (Some o) r turn = tt
   peers_none tells side rose old new world left None r (closes p o' is some outs_is next still) = absurd (no_outs o' (sym some))

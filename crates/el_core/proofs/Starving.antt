@@ -2,7 +2,8 @@
 use Rattle.std.proofs.Common.{◌≡◌, ◌⊎◌, inl, inr, ℕ, Bool, true, false, List, [], ◌∷◌, Option, Some, None, refl, ap, subst}
 use Rattle.el_base.specs.declared.hash.Hash32.{Hash32}
 use Rattle.el_outside.specs.declared.archive.Archive as archives
-use Rattle.el_outside.specs.Devices.{Device, archive}
+use Rattle.el_side.specs.Deeds as deed
+use Rattle.el_side.specs.Deeds.{Deed, archive}
 use Rattle.el_outside.specs.Files.{AllGrow}
 use Rattle.el_chain.specs.declared.node.Node.{Node}
 use Rattle.el_chain.specs.declared.moves.Plan.{Plan}
@@ -26,12 +27,12 @@ use Rattle.el_model.specs.declared.fault.QueryFault.TheVariants as fault
 use Rattle.el_side.specs.Beneath.{Beneath, Ghosts, Lost}
 
 -- the chain is as it was, or the target of the move
-data Ends (stood : Node → List ℕ → Type 0) (chain : Chain) (is_move : Plan → Type 0) (answer : NodeAnswer) (losses : List Device) (next : Chain) : Type 0 where
+data Ends (stood : Node → List ℕ → Type 0) (chain : Chain) (is_move : Plan → Type 0) (answer : NodeAnswer) (losses : List Deed) (next : Chain) : Type 0 where
   stays : next ≡ chain → losses ≡ [] → Ends stood chain is_move answer losses next
-  lost : answer ≡ say.Refused refusal.Archive → next ≡ chain → losses ≡ archive ∷ [] → Ends stood chain is_move answer losses next
+  lost : answer ≡ say.Refused refusal.Archive → next ≡ chain → losses ≡ deed.lost archive ∷ [] → Ends stood chain is_move answer losses next
   moved : (p : Plan) (blocks : Chain) → is_move p → Moves stood chain p blocks → next ≡ target p chain blocks → losses ≡ [] → Ends stood chain is_move answer losses next
 
-module _ (stood : Node → List ℕ → Type 0) (side : Side) (P : Plan → Type 0) (answer : NodeAnswer) (losses : List Device) (next : Side) where
+module _ (stood : Node → List ℕ → Type 0) (side : Side) (P : Plan → Type 0) (answer : NodeAnswer) (losses : List Deed) (next : Side) where
   of_tx : (bytes : List ℕ) → Adds side bytes answer losses next → Ends stood side.chain P answer losses next.chain
   of_tx bytes (side_of.joins t encodes right answer_is next_is none) = stays (ap (λ (s : Side). s.chain) next_is) none
   of_tx bytes (side_of.refuses t e encodes why answer_is next_is none) = stays (ap (λ (s : Side). s.chain) next_is) none
@@ -44,7 +45,7 @@ module _ (stood : Node → List ℕ → Type 0) (side : Side) (P : Plan → Type
   of_drop id (side_of.unsure un may next_is none) = stays (ap (λ (s : Side). s.chain) next_is) none
 
 module _ {A : Type 0} (f : archives.Ghosts A) (side : Side) where
-  of_moving : (back : ℕ) (rest : List Node) (answer : NodeAnswer) (losses : List Device) (next : Side) (files : ℕ → List ℕ) → (f.tells → AllGrow next.files files) → Moving f side back rest answer losses next
+  of_moving : (back : ℕ) (rest : List Node) (answer : NodeAnswer) (losses : List Deed) (next : Side) (files : ℕ → List ℕ) → (f.tells → AllGrow next.files files) → Moving f side back rest answer losses next
       → Ends (StoodBy f files) side.chain (λ (p : Plan). p ≡ plan_of back rest) answer losses next.chain
   of_moving back rest answer losses next files grows (side_of.commits read blocks more moves next_is answer_is none) =
       let grows' : f.tells → AllGrow read files = λ t. subst (λ (s : Side). AllGrow s.files files) next_is (grows t) in
@@ -54,12 +55,12 @@ module _ {A : Type 0} (f : archives.Ghosts A) (side : Side) where
   of_moving back rest answer losses next files grows (side_of.fails read more answer_is next_is one) = lost answer_is (ap (λ (s : Side). s.chain) next_is) one
   of_moving back rest answer losses next files grows (side_of.unsure un left read more may next_is none) = stays (ap (λ (s : Side). s.chain) next_is) none
 
-  ends_by : (P Q : Plan → Type 0) (answer : NodeAnswer) (losses : List Device) (chain next : Chain) (files : ℕ → List ℕ) → ((p : Plan) → P p → Q p) → Ends (StoodBy f files) chain P answer losses next → Ends (StoodBy f files) chain Q answer losses next
+  ends_by : (P Q : Plan → Type 0) (answer : NodeAnswer) (losses : List Deed) (chain next : Chain) (files : ℕ → List ℕ) → ((p : Plan) → P p → Q p) → Ends (StoodBy f files) chain P answer losses next → Ends (StoodBy f files) chain Q answer losses next
   ends_by P Q answer losses chain next files gives (stays same none) = stays same none
   ends_by P Q answer losses chain next files gives (lost says same one) = lost says same one
   ends_by P Q answer losses chain next files gives (moved p blocks is moves next_is none) = moved p blocks (gives p is) moves next_is none
 
-  of_tip : (bytes hash : List ℕ) (answer : NodeAnswer) (losses : List Device) (next : Side) (files : ℕ → List ℕ) → IsSure side → (f.tells → AllGrow next.files files) → ReadsNodeLine bytes (tip hash)
+  of_tip : (bytes hash : List ℕ) (answer : NodeAnswer) (losses : List Deed) (next : Side) (files : ℕ → List ℕ) → IsSure side → (f.tells → AllGrow next.files files) → ReadsNodeLine bytes (tip hash)
       → Tips f side (record { 0 = hash }) answer losses next → Ends (StoodBy f files) side.chain (IsFirstMove side (line bytes)) answer losses next.chain
   of_tip bytes hash answer losses next files sure grows reads (side_of.unknown none_known answer_is next_is none) = stays (ap (λ (s : Side). s.chain) next_is) none
   of_tip bytes hash answer losses next files sure grows reads (side_of.unconnected is_known no_path answer_is next_is none) = stays (ap (λ (s : Side). s.chain) next_is) none
@@ -72,12 +73,12 @@ module _ {A : Type 0} (f : archives.Ghosts A) (side : Side) where
   of_tip bytes hash answer losses next files sure grows reads (side_of.along path is_path (side_of.unsure un back same goes)) = absurd (not_both side sure un)
 
 module _ {A : Type 0} (f : archives.Ghosts A) (side : Side) where
-  of_place : (P : Plan → Type 0) (answer : NodeAnswer) (losses : List Device) (next : Side) (files : ℕ → List ℕ) (file at : ℕ) → Looks f side file at answer losses next
+  of_place : (P : Plan → Type 0) (answer : NodeAnswer) (losses : List Deed) (next : Side) (files : ℕ → List ℕ) (file at : ℕ) → Looks f side file at answer losses next
       → Ends (StoodBy f files) side.chain P answer losses next.chain
   of_place P answer losses next files file at (side_of.looks found read up answer_is next_is none) = stays (ap (λ (s : Side). s.chain) next_is) none
   of_place P answer losses next files file at (side_of.fails read more answer_is next_is one) = lost answer_is (ap (λ (s : Side). s.chain) next_is) one
 
-  of_said : (bytes : List ℕ) (answer : NodeAnswer) (losses : List Device) (next : Side) (files : ℕ → List ℕ) (said : Option NodeLine) → IsSure side → (f.tells → AllGrow next.files files) → IsSaid bytes said → Orders f side said answer losses next
+  of_said : (bytes : List ℕ) (answer : NodeAnswer) (losses : List Deed) (next : Side) (files : ℕ → List ℕ) (said : Option NodeLine) → IsSure side → (f.tells → AllGrow next.files files) → IsSaid bytes said → Orders f side said answer losses next
       → Ends (StoodBy f files) side.chain (IsFirstMove side (line bytes)) answer losses next.chain
   of_said bytes answer losses next files None sure grows says orders = stays (ap (λ (s : Side). s.chain) orders.1) orders.2
   of_said bytes answer losses next files (Some (block file at)) sure grows says orders = of_place (IsFirstMove side (line bytes)) answer losses next files file at orders
@@ -85,13 +86,13 @@ module _ {A : Type 0} (f : archives.Ghosts A) (side : Side) where
   of_said bytes answer losses next files (Some (tx b)) sure grows says orders = of_tx (StoodBy f files) side (IsFirstMove side (line bytes)) answer losses next b orders
   of_said bytes answer losses next files (Some (dropped id)) sure grows says orders = of_drop (StoodBy f files) side (IsFirstMove side (line bytes)) answer losses next (record { 0 = id }) orders
 
-  of_line : (e : LineEvent) (answer : NodeAnswer) (losses : List Device) (next : Side) (files : ℕ → List ℕ) → IsSure side → (f.tells → AllGrow next.files files) → OrdersLine f side e answer losses next
+  of_line : (e : LineEvent) (answer : NodeAnswer) (losses : List Deed) (next : Side) (files : ℕ → List ℕ) → IsSure side → (f.tells → AllGrow next.files files) → OrdersLine f side e answer losses next
       → Ends (StoodBy f files) side.chain (IsFirstMove side e) answer losses next.chain
   of_line too_long answer losses next files sure grows orders = stays (ap (λ (s : Side). s.chain) orders.1) orders.2
   of_line (line bytes) answer losses next files sure grows orders = of_said bytes answer losses next files orders.0 sure grows orders.1 orders.2
 
 module _ {G A : Type 0} (of : Ghosts G A) where
-  ends_stops : (was now : Beneath G A) (chain next : Chain) (later : Bool) (P : Plan → Type 0) (answer : NodeAnswer) (losses : List Device) → (answer ≡ say.Refused refusal.Archive → later ≡ true)
+  ends_stops : (was now : Beneath G A) (chain next : Chain) (later : Bool) (P : Plan → Type 0) (answer : NodeAnswer) (losses : List Deed) → (answer ≡ say.Refused refusal.Archive → later ≡ true)
       → Moved of.ledger was.ledger now.ledger chain next → Lost of was now losses → Ends (StoodBy of.files (of.files.bytes now.files)) chain P answer losses next
       → StopsAt of was now chain later P fault.Memory
   ends_stops was now chain next later P answer losses again went rose (stays same none) = record {
@@ -139,10 +140,10 @@ module _ {G A : Type 0} (of : Ghosts G A) where
 -- ---- what is lost in a step of whatever side
 
 -- nothing was lost, or the block files failed and that is told
-abbrev LostOrNot : NodeAnswer → List Device → Type 0
-LostOrNot answer losses = (losses ≡ []) ⊎ ((answer ≡ say.Refused refusal.Archive) × (losses ≡ archive ∷ []))
+abbrev LostOrNot : NodeAnswer → List Deed → Type 0
+LostOrNot answer losses = (losses ≡ []) ⊎ ((answer ≡ say.Refused refusal.Archive) × (losses ≡ deed.lost archive ∷ []))
 
-module _ {A : Type 0} (f : archives.Ghosts A) (side : Side) (answer : NodeAnswer) (losses : List Device) (next : Side) where
+module _ {A : Type 0} (f : archives.Ghosts A) (side : Side) (answer : NodeAnswer) (losses : List Deed) (next : Side) where
   lost_moving : (back : ℕ) (rest : List Node) → Moving f side back rest answer losses next → LostOrNot answer losses
   lost_moving back rest (side_of.commits read blocks more moves next_is answer_is none) = inl none
   lost_moving back rest (side_of.refuses read e more answer_is why next_is none) = inl none
@@ -192,7 +193,7 @@ module _ {A : Type 0} (f : archives.Ghosts A) (side : Side) (answer : NodeAnswer
   lost_line (line bytes) orders = lost_said orders.0 orders.2
 
 module _ {G A : Type 0} (of : Ghosts G A) where
-  fails_so : (was now : Beneath G A) (chain : Chain) (later : Bool) (answer : NodeAnswer) (losses : List Device) → (answer ≡ say.Refused refusal.Archive → later ≡ true) → Lost of was now losses
+  fails_so : (was now : Beneath G A) (chain : Chain) (later : Bool) (answer : NodeAnswer) (losses : List Deed) → (answer ≡ say.Refused refusal.Archive → later ≡ true) → Lost of was now losses
       → LostOrNot answer losses → Fails of was now chain later fault.Memory
   fails_so was now chain later answer losses again rose (inl none) = record { losses = losses; fails = by_memory refl none; rose = rose }
   fails_so was now chain later answer losses again rose (inr one) = record { losses = losses; fails = untold (again one.0) refl one.1 refl; rose = rose }

@@ -2,11 +2,11 @@
 use Rattle.std.proofs.Common.{◌≡◌, inl, inr, ℕ, zero, suc, true, false, List, [], ◌∷◌, map, take, find, slice_get, Option, Some, None, refl, sym, ap, ◌∙◌, subst, true≢false}
 use Rattle.std.specs.List.{AllByRecursion, AllZip}
 use Rattle.el_outside.specs.Counts.{RoseBy}
-use Rattle.el_outside.specs.Devices as device
-use Rattle.el_outside.specs.Devices.{Device, failures}
+use Rattle.el_side.specs.Deeds as deed
+use Rattle.el_side.specs.Deeds.{Deed, failures}
 use Rattle.el_outside.specs.Files.{AllGrow}
 use Rattle.el_outside.specs.Trace.{Message, Closing}
-use Rattle.el_outside.proofs.Devices.{rose_still}
+use Rattle.el_side.proofs.Deeds.{rose_still}
 use Rattle.el_chain.specs.Chains.{Chain}
 use Rattle.el_mempool.specs.Standing.{StandsFor}
 use Rattle.el_model.specs.LedgerCalls.{Asked, Moved}
@@ -99,7 +99,6 @@ to_tell stands old world left i c stood still at =
     record {
       stood = stood.chain;
       set = λ sure. subst (λ (k : Chain). StandsFor old.holdings.pool.entries k world.side.kept) start_is (stood.set.stood sure);
-      beside = λ sure. tt;
       others = λ sure. rw z.2.kept (others_of world.side stood.start old.touched z.0.client.subs start_is (all_at _ world.sessions i z.0 (stood.tellings.untouched sure) z.1));
     }
 
@@ -115,15 +114,15 @@ module _ {G A : Type 0} (of : Ghosts G A) where
 
   -- the client and its session changed, or both gone
   told_by : (old new : State G) (files : A) (world : World) (left : List Event) (o : Outs) (i : ℕ) (r : BesideTelling old new files world left i) (c : ClientState) (x : Session)
-      (now : Option ClientState) (session : Option Session) (losses : List Device)
+      (now : Option ClientState) (session : Option Session) (losses : List Deed)
       → SessionsAre old.clients None None world.sessions r.stood.said → old.speaker ≡ None → old.surplus ≡ None → slice_get world.sessions i ≡ Some x
       → new.clients ≡ replaced i now old.clients → Both (IsSession None r.stood.said) now session → IfThere (λ (n : Session). n.peer ≡ x.peer) session
       → (IsSure world.side → IfThere (λ (n : Session). status_told.AllTold (status world.side.chain world.side.kept) n.client.subs) session)
       → OneTurn of.files world [] o losses (record world { sessions = replaced i session world.sessions })
-      → AllByRecursion (GoesTo (record world { sessions = replaced i session world.sessions }) None o.closing) o.messages → RoseBy (of.ledger.faults old.ledger) (of.ledger.faults new.ledger) (failures device.disk losses)
-      → failures device.link losses ≡ 0 → failures device.archive losses ≡ 0
+      → AllByRecursion (GoesTo (record world { sessions = replaced i session world.sessions }) None o.closing) o.messages → RoseBy (of.ledger.faults old.ledger) (of.ledger.faults new.ledger) (failures deed.disk losses)
+      → failures deed.link losses ≡ 0 → failures deed.relay losses ≡ 0 → failures deed.archive losses ≡ 0
       → TookTurn of (serving old files) (serving new files) world left o
-  told_by old new files world left o i r c x now session losses are no_speaker no_surplus at clients both same statuses turn sends rose no_link no_files =
+  told_by old new files world left o i r c x now session losses are no_speaker no_surplus at clients both same statuses turn sends rose no_link no_relay no_files =
       let st = r.stood in
       let speaker : new.speaker ≡ None = ap (λ (s : State G). s.speaker) r.same ∙ no_speaker in
       let surplus : new.surplus ≡ None = ap (λ (s : State G). s.surplus) r.same ∙ no_surplus in
@@ -147,7 +146,7 @@ module _ {G A : Type 0} (of : Ghosts G A) where
           found = ap (λ (s : State G). s.holdings.tree) r.same ∙ st.found;
           ahead = ap (λ (s : State G). s.ahead) r.same ∙ st.ahead;
           start = st.start;
-          set = rw (ap (λ (s : State G). s.holdings) r.same) st.set;
+          set = rw (ap (λ (s : State G). s.holdings) r.same, ap (λ (s : State G). s.caches) r.same) st.set;
           ordered = st.ordered;
           node = rw (ap (λ (s : State G). s.node) r.same) st.node;
           said = st.said;
@@ -161,7 +160,7 @@ module _ {G A : Type 0} (of : Ghosts G A) where
         moved = r.went;
         told = r.told;
         sends_to = rw surplus sends;
-        rose = lost_of of old.ledger new.ledger files files losses no_link (rw no_files (rose_still _ _ refl)) rose;
+        rose = lost_of of old.ledger new.ledger files files losses no_link no_relay (rw no_files (rose_still _ _ refl)) rose;
       }
     where
       unmoved : (n : Option Session) → r.stood.start ≡ world.side.chain → IfThere (λ (m : Session). status_told.AllTold (status world.side.chain world.side.kept) m.client.subs) n
@@ -186,19 +185,19 @@ module _ {G A : Type 0} (of : Ghosts G A) where
       told_by old new files world left o i r c x (Some (told_client world.side c)) (Some (told world x)) [] are no_speaker no_surplus x_at
       (clients ∙ ap (λ (n : Option ClientState). replaced i n old.clients) now_is) (told_session world r.stood.said c x is) refl (λ s. marked_told (status world.side.chain world.side.kept) x.client.subs)
       (run.notifies r.still refl (model.tells x next_is o_is (ap (λ (ss : List Session). record world { sessions = ss }) (sym mapped)) refl))
-      (rw o_is (goes_to_all (record world { sessions = replaced i (Some (told world x)) world.sessions }) None x.peer _ there)) rose refl refl
+      (rw o_is (goes_to_all (record world { sessions = replaced i (Some (told world x)) world.sessions }) None x.peer _ there)) rose refl refl refl
   tell_one old new files world left o i r c now x is are x_at no_speaker no_surplus next_is clients (fails outs_is now_is rose) =
       let filtered = one_filtered x.peer world.sessions i x are.rising x_at refl in
-      told_by old new files world left o i r c x None None (device.disk ∷ []) are no_speaker no_surplus x_at
+      told_by old new files world left o i r c x None None (deed.lost deed.disk ∷ []) are no_speaker no_surplus x_at
       (clients ∙ ap (λ (n : Option ClientState). replaced i n old.clients) now_is) tt tt (λ s. tt)
       (run.notifies r.still refl (model.fails x next_is (outs_is ∙ ap closes_disk is.peer) (ap (λ (ss : List Session). record world { sessions = ss }) (sym filtered)) refl))
-      (rw outs_is tt) rose refl refl
+      (rw outs_is tt) rose refl refl refl
   tell_one old new files world left o i r c now x is are x_at no_speaker no_surplus next_is clients (starves outs_is now_is rose) =
       let filtered = one_filtered x.peer world.sessions i x are.rising x_at refl in
       told_by old new files world left o i r c x None None [] are no_speaker no_surplus x_at
       (clients ∙ ap (λ (n : Option ClientState). replaced i n old.clients) now_is) tt tt (λ s. tt)
       (run.departs x.peer (one_there x.peer world.sessions i x x_at refl) refl (outs_is ∙ ap closes_memory is.peer) (ap (λ (ss : List Session). record world { sessions = ss }) (sym filtered)) refl)
-      (rw outs_is tt) rose refl refl
+      (rw outs_is tt) rose refl refl refl
   tell_one old new files world left o i r c now x is are x_at no_speaker no_surplus next_is clients (unsure un some rose) =
       let y : Session = record x { client = some.now; waits = false } in
       let mapped = one_mapped x.peer (λ (z : Session). y) world.sessions i x are.rising x_at refl in
@@ -208,7 +207,7 @@ module _ {G A : Type 0} (of : Ghosts G A) where
       told_by old new files world left o i r c x (Some (record c { session = some.now; waits = false })) (Some y) [] are no_speaker no_surplus x_at
       (clients ∙ ap (λ (n : Option ClientState). replaced i n old.clients) some.left_is) (some_session r.stood.said c x some.now is) refl (λ sure. absurd (not_both world.side sure un))
       (run.notifies r.still refl (model.unsure un x some.texts some.now next_is some.told stays o_is (ap (λ (ss : List Session). record world { sessions = ss }) (sym mapped)) refl))
-      (rw o_is (goes_to_all (record world { sessions = replaced i (Some y) world.sessions }) None x.peer some.texts there)) rose refl refl
+      (rw o_is (goes_to_all (record world { sessions = replaced i (Some y) world.sessions }) None x.peer some.texts there)) rose refl refl refl
 
   -- the telling of the first client that waits
   tell_step : (old new : State G) (files : A) (world : World) (left : List Event) (o : Outs) (i : ℕ) (r : BesideTelling old new files world left i) (c : ClientState) (now : Option ClientState)

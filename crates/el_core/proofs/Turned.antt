@@ -4,7 +4,7 @@ use Rattle.std.specs.Prelude.{IfSome, IfNone}
 use Rattle.std.specs.List.{AllZip}
 use Rattle.el_base.specs.declared.hash.Hash32.{Hash32}
 use Rattle.el_outside.specs.Files.{AllGrow}
-use Rattle.el_outside.proofs.Devices.{all_rose_none}
+use Rattle.el_side.proofs.Deeds.{all_rose_none}
 use Rattle.el_outside.proofs.Traces.{all_grow_none, all_grow_more}
 use Rattle.el_chain.specs.declared.node.Node.{Node}
 use Rattle.el_chain.specs.Chains.{Chain}
@@ -21,6 +21,7 @@ use Rattle.el_model.proofs.LedgerMoves.{LeavesOwn, asked_moved}
 use Rattle.el_sync.specs.Steps.{Fails, IsFrom, StopsAt}
 use Rattle.el_model.specs.declared.fault.QueryFault.{QueryFault}
 use Rattle.el_model.specs.declared.fault.QueryFault.TheVariants as fault
+use Rattle.el_side.specs.Caching.{CachesStand, CachesStay}
 use Rattle.el_side.specs.Beneath.{Ghosts, Lost, beneath, failed_beneath}
 use Rattle.el_core.specs.State.{State, ClientState, HasGivenAll, IsSession, SessionsAre, AllVoid, Stands, waiting, serving}
 use Rattle.el_core.specs.Turn.{TookTurn, TurnFailed, IsDone, outs_of}
@@ -97,9 +98,9 @@ begun_stands {G} stands old start left rest e tip stood is still all_told tip_is
 module _ {G A : Type 0} (of : Ghosts G A) where
   -- a turn of the node's last tip line
   pub ahead_turned : (old new : State G) (before after : A) (world : World) (left : List Event) (o : code.Outs) → Stands of.ledger.stands old world left
-      → (of.files.tells → AllGrow world.side.files (of.files.bytes before)) → (old.ahead ≡ [] → ⊥) → new ≡ record old { ledger = new.ledger; holdings = new.holdings; ahead = new.ahead; touched = new.touched }
+      → (of.files.tells → AllGrow world.side.files (of.files.bytes before)) → (old.ahead ≡ [] → ⊥) → new ≡ record old { ledger = new.ledger; holdings = new.holdings; caches = new.caches; ahead = new.ahead; touched = new.touched }
       → new.holdings.magic ≡ old.holdings.magic
-      → ((side : Side) (start : Chain) → IsAt of (beneath old.ledger before) old.holdings side start → side.found ≡ old.holdings.tree → Answered of (Moving of.files side 0 old.ahead) (serving old before) (serving new after) side start o)
+      → ((side : Side) (start : Chain) → IsAt of (beneath old.ledger before) old.holdings old.caches side start → side.found ≡ old.holdings.tree → Answered of (Moving of.files side 0 old.ahead) (serving old before) (serving new after) side start o)
       → TookTurn of (serving old before) (serving new after) world left (outs_of o)
   ahead_turned old new before after world left o stood told some same magic turn =
       let busy : world.side.ahead ≡ [] → ⊥ = λ e. some (stood.ahead ∙ e) in
@@ -128,10 +129,10 @@ module _ {G A : Type 0} (of : Ghosts G A) where
   -- a line of the node: `read` is the state after the line was read
   pub node_turned : (old read new : State G) (before after : A) (world : World) (left : List Event) (o : code.Outs) (e : LineEvent) → ((k : G) (chain : Chain) → of.ledger.stands k chain → of.ledger.tip k ≡ tip_of chain) → Stands of.ledger.stands old world left
       → (of.files.tells → AllGrow world.side.files (of.files.bytes before)) → read.ahead ≡ [] → waiting read.clients ≡ [] → read ≡ record old { node = read.node } → read.node.limit ≡ old.node.limit → Gives old.node e read.node
-      → new ≡ record read { ledger = new.ledger; holdings = new.holdings; ahead = new.ahead; clients = new.clients; before = new.before; touched = new.touched }
+      → new ≡ record read { ledger = new.ledger; holdings = new.holdings; caches = new.caches; ahead = new.ahead; clients = new.clients; before = new.before; touched = new.touched }
       → new.holdings.magic ≡ read.holdings.magic
       → (new.clients ≡ all_wait read.clients) × (new.before ≡ of.ledger.tip read.ledger)
-      → ((side : Side) (start : Chain) → IsAt of (beneath read.ledger before) read.holdings side start → IsFrom read.holdings side
+      → ((side : Side) (start : Chain) → IsAt of (beneath read.ledger before) read.holdings read.caches side start → IsFrom read.holdings side
       → Answered of (OrdersLine of.files side e) (serving (begun_at (of.ledger.tip read.ledger) read) before) (serving new after) side start o)
       → TookTurn of (serving old before) (serving new after) world left (outs_of o)
   unfolding begun_stands
@@ -143,7 +144,7 @@ module _ {G A : Type 0} (of : Ghosts G A) where
       let n = next_order old.node read.node world.heard stood.ordered e stood.node limit gives in
       let tip : IsSure world.side → of.ledger.tip read.ledger ≡ tip_of world.side.chain = λ sure. tip_is read.ledger world.side.chain (rw ledger_is (stood.chain sure)) in
       let began = begun_stands of.ledger.stands old world left n.rest e (of.ledger.tip read.ledger) stood n.first_is from.still all_told tip in
-      let a = turn world.side stood.start (record { stood = rw ledger_is stood.chain; set = rw (ap (λ (s : State G). s.holdings) same) stood.set; told = told }) from in
+      let a = turn world.side stood.start (record { stood = rw ledger_is stood.chain; set = rw (ap (λ (s : State G). s.holdings) same, ap (λ (s : State G). s.caches) same) stood.set; told = told }) from in
       let node : new.node ≡ read.node = ap (λ (s : State G). s.node) then in
       node_step of old (begun_at (of.ledger.tip read.ledger) old) new before after world left o e
       (record {
@@ -154,7 +155,7 @@ module _ {G A : Type 0} (of : Ghosts G A) where
           changed = a.changed;
           sends = a.sends;
           led = subst (λ (k : G). Leads of (OrdersLine of.files world.side e) world.side stood.start
-              (record { was = beneath k before; now = beneath new.ledger after; answer = a.answer; found = new.holdings.tree; ahead = new.ahead; moved = a.moved; changed = a.changed; holdings = new.holdings })) ledger_is a.led;
+              (record { was = beneath k before; now = beneath new.ledger after; answer = a.answer; found = new.holdings.tree; ahead = new.ahead; moved = a.moved; changed = a.changed; holdings = new.holdings; caches = new.caches })) ledger_is a.led;
           covers = subst (λ (cs : List ClientState). CoversAll (all_wait cs) [] a.moved a.changed new.touched) clients_is a.covers;
         };
         magic = magic ∙ ap (λ (s : State G). s.holdings.magic) same;
@@ -168,25 +169,29 @@ module _ {G A : Type 0} (of : Ghosts G A) where
 
   -- a client may be answered
   settled : (old : State G) (files : A) (world : World) (left : List Event) (known_files : ℕ → List ℕ) → Stands of.ledger.stands old world left → (of.files.tells → AllGrow known_files (of.files.bytes files)) → old.ahead ≡ []
-      → IsSettled of (beneath old.ledger files) old.holdings (record world.side { files = known_files })
+      → IsSettled of (beneath old.ledger files) old.holdings old.caches (record world.side { files = known_files })
   settled old files world left known_files stood told still = record {
     stood = stood.chain;
     set = λ sure. subst (λ (c : Chain). StandsFor old.holdings.pool.entries c world.side.kept) (stood.set.still (sym stood.ahead ∙ still)) (stood.set.stood sure);
-    beside = λ sure. tt;
+    computed = λ sure. subst (λ (c : Chain). CachesStand old.caches c world.side.chain) (stood.set.still (sym stood.ahead ∙ still)) (stood.set.computed sure);
     found = stood.found;
     told = told;
   }
 
   beside : (old new : State G) (world : World) (left : List Event) → LeavesOwn of.ledger → of.ledger.is_live old.ledger → Stands of.ledger.stands old world left
-      → old.ahead ≡ [] → waiting old.clients ≡ [] → HasGivenAll old.node → new ≡ record old { ledger = new.ledger; clients = new.clients; speaker = new.speaker; surplus = new.surplus }
-      → Asked of.ledger old.ledger new.ledger → Beside of old new world left
-  beside old new world left own live stood still quiet_all all same asked = record {
+      → old.ahead ≡ [] → waiting old.clients ≡ [] → HasGivenAll old.node → new ≡ record old { ledger = new.ledger; caches = new.caches; clients = new.clients; speaker = new.speaker; surplus = new.surplus }
+      → Asked of.ledger old.ledger new.ledger → CachesStay of.ledger old.ledger old.caches new.caches → Beside of old new world left
+  beside old new world left own live stood still quiet_all all same asked stays = record {
     stood = stood;
     none_left = none_ordered old.node world.heard stood.ordered stood.node all;
     still = sym stood.ahead ∙ still;
     all_told = all_told_world old.clients old.speaker stood.said world.sessions stood.sessions.each quiet_all;
     moved = λ sure. asked_moved of.ledger old.ledger new.ledger world.side.chain own live asked (stood.chain sure);
     holdings = ap (λ (s : State G). s.holdings) same;
+    caches = λ sure.
+        let start_is = stood.set.still (sym stood.ahead ∙ still) in
+        subst (λ (c : Chain). CachesStand new.caches c world.side.chain) (sym start_is) (stays world.side.chain (stood.chain sure)
+        (subst (λ (c : Chain). CachesStand old.caches c world.side.chain) start_is (stood.set.computed sure)));
     ahead = ap (λ (s : State G). s.ahead) same;
     node = ap (λ (s : State G). s.node) same;
     before = ap (λ (s : State G). s.before) same;
@@ -196,28 +201,28 @@ module _ {G A : Type 0} (of : Ghosts G A) where
   -- a turn where the node has nothing left
   pub peers_turned : (old new : State G) (before after : A) (world : World) (left : List Event) (o : Option code.Outs) → LeavesOwn of.ledger → of.ledger.is_live old.ledger → Stands of.ledger.stands old world left
       → (of.files.tells → AllGrow world.side.files (of.files.bytes before)) → (of.files.tells → AllGrow (of.files.bytes before) (of.files.bytes after)) → old.ahead ≡ [] → waiting old.clients ≡ [] → HasGivenAll old.node
-      → new ≡ record old { ledger = new.ledger; clients = new.clients; speaker = new.speaker; surplus = new.surplus } → Asked of.ledger old.ledger new.ledger
-      → ((side : Side) → IsSettled of (beneath old.ledger before) old.holdings side → PeersTurn of.files.tells side (Lost of (beneath old.ledger before) (beneath new.ledger after)) old o new)
+      → new ≡ record old { ledger = new.ledger; caches = new.caches; clients = new.clients; speaker = new.speaker; surplus = new.surplus } → Asked of.ledger old.ledger new.ledger → CachesStay of.ledger old.ledger old.caches new.caches
+      → ((side : Side) → IsSettled of (beneath old.ledger before) old.holdings old.caches side → PeersTurn of.files.tells side (Lost of (beneath old.ledger before) (beneath new.ledger after)) old o new)
       → IfSome o (λ out. TookTurn of (serving old before) (serving new after) world left (outs_of out))
-  peers_turned old new before after world left o own live stood told grows still quiet_all all same asked turn =
-      peers_step of old new before after world left o (beside old new world left own live stood still quiet_all all same asked)
+  peers_turned old new before after world left o own live stood told grows still quiet_all all same asked stays turn =
+      peers_step of old new before after world left o (beside old new world left own live stood still quiet_all all same asked stays)
       (λ t. all_grow_more world.side.files (of.files.bytes before) (of.files.bytes after) (told t) (grows t))
       (turn world.side (settled old before world left world.side.files stood told still))
 
   -- what is known of it whatever the side knows of the block files
   pub peers_any : (old new : State G) (before after : A) (world : World) (left : List Event) (o : Option code.Outs) → Stands of.ledger.stands old world left → old.ahead ≡ []
-      → ((side : Side) → IsSettled of (beneath old.ledger before) old.holdings side → PeersTurn of.files.tells side (Lost of (beneath old.ledger before) (beneath new.ledger after)) old o new)
+      → ((side : Side) → IsSettled of (beneath old.ledger before) old.holdings old.caches side → PeersTurn of.files.tells side (Lost of (beneath old.ledger before) (beneath new.ledger after)) old o new)
       → PeersTurn of.files.tells (record world.side { files = of.files.bytes before }) (Lost of (beneath old.ledger before) (beneath new.ledger after)) old o new
   peers_any old new before after world left o stood still turn =
       turn (record world.side { files = of.files.bytes before }) (settled old before world left (of.files.bytes before) stood (λ t. all_grow_none (of.files.bytes before)) still)
 
   pub peers_ended : (old new : State G) (before after : A) (world : World) (left : List Event) (o : Option code.Outs) → LeavesOwn of.ledger → of.ledger.is_live old.ledger → Stands of.ledger.stands old world left
-      → old.ahead ≡ [] → waiting old.clients ≡ [] → HasGivenAll old.node → new ≡ record old { ledger = new.ledger; clients = new.clients; speaker = new.speaker; surplus = new.surplus }
-      → Asked of.ledger old.ledger new.ledger
-      → ((side : Side) → IsSettled of (beneath old.ledger before) old.holdings side → PeersTurn of.files.tells side (Lost of (beneath old.ledger before) (beneath new.ledger after)) old o new)
+      → old.ahead ≡ [] → waiting old.clients ≡ [] → HasGivenAll old.node → new ≡ record old { ledger = new.ledger; caches = new.caches; clients = new.clients; speaker = new.speaker; surplus = new.surplus }
+      → Asked of.ledger old.ledger new.ledger → CachesStay of.ledger old.ledger old.caches new.caches
+      → ((side : Side) → IsSettled of (beneath old.ledger before) old.holdings old.caches side → PeersTurn of.files.tells side (Lost of (beneath old.ledger before) (beneath new.ledger after)) old o new)
       → IfNone o (IsDone of.ledger.stands of.files world left new)
-  peers_ended old new before after world left o own live stood still quiet_all all same asked turn =
-      peers_none of _ _ _ old new world left o (beside old new world left own live stood still quiet_all all same asked)
+  peers_ended old new before after world left o own live stood still quiet_all all same asked stays turn =
+      peers_none of _ _ _ old new world left o (beside old new world left own live stood still quiet_all all same asked stays)
       (peers_any old new before after world left o stood still turn)
 
 -- no memory for the node's next line: nothing has happened
@@ -228,7 +233,7 @@ unread_failed of old new files world left own live same stood line quiet_all =
       losses = [];
       stops = run.no_memory refl (nodes_turn of.ledger.stands old world left stood line (all_told_world old.clients old.speaker stood.said world.sessions stood.sessions.each quiet_all)) refl refl refl;
       within = tt;
-      rose = λ of_link. all_rose_none (failed_beneath of of_link (beneath old.ledger files));
+      rose = λ of_link of_relay. all_rose_none (failed_beneath of of_link of_relay (beneath old.ledger files));
       later = false;
       stops_at = λ sure. stops_still of old.ledger files world.side.chain false _ own live (stood.chain sure);
       kept = λ k sure. absurd k;
@@ -239,15 +244,15 @@ unread_failed of old new files world left own live same stood line quiet_all =
 pub node_failed : {G A : Type 0} (of : Ghosts G A) (old read : State G) (new : G) (before after : A) (world : World) (left : List Event) (said : LineEvent) (e : QueryFault)
     → Stands of.ledger.stands old world left → (of.files.tells → AllGrow world.side.files (of.files.bytes before)) → read.ahead ≡ [] → waiting read.clients ≡ [] → read ≡ record old { node = read.node } → read.node.limit ≡ old.node.limit
     → Gives old.node said read.node → (e ≡ fault.Memory → of.ledger.is_live new)
-    → ((side : Side) (start : Chain) → IsSure side → IsAt of (beneath read.ledger before) read.holdings side start → IsFrom read.holdings side → StopsAt of (beneath read.ledger before) (beneath new after) side.chain false (IsFirstMove side said) e)
-    → ((side : Side) (start : Chain) → side.sure ≡ false → IsAt of (beneath read.ledger before) read.holdings side start → IsFrom read.holdings side → Fails of (beneath read.ledger before) (beneath new after) side.chain false e)
+    → ((side : Side) (start : Chain) → IsSure side → IsAt of (beneath read.ledger before) read.holdings read.caches side start → IsFrom read.holdings side → StopsAt of (beneath read.ledger before) (beneath new after) side.chain false (IsFirstMove side said) e)
+    → ((side : Side) (start : Chain) → side.sure ≡ false → IsAt of (beneath read.ledger before) read.holdings read.caches side start → IsFrom read.holdings side → Fails of (beneath read.ledger before) (beneath new after) side.chain false e)
     → TurnFailed of (beneath old.ledger before) (beneath new after) world left e
 node_failed {G} of old read new before after world left said e stood told still quiet_all same limit gives live stopped lost =
     let ledger_is : read.ledger ≡ old.ledger = ap (λ (s : State G). s.ledger) same in
     let from = from_side of old read world left stood same still in
     let all_told : AllTold world = all_told_world old.clients old.speaker stood.said world.sessions stood.sessions.each (rw (ap (λ (s : State G). s.clients) same) at quiet_all) in
     let n = next_order old.node read.node world.heard stood.ordered said stood.node limit gives in
-    let at : IsAt of (beneath read.ledger before) read.holdings world.side stood.start = record { stood = rw ledger_is stood.chain; set = rw (ap (λ (s : State G). s.holdings) same) stood.set; told = told } in
+    let at : IsAt of (beneath read.ledger before) read.holdings read.caches world.side stood.start = record { stood = rw ledger_is stood.chain; set = rw (ap (λ (s : State G). s.holdings) same, ap (λ (s : State G). s.caches) same) stood.set; told = told } in
     let r : IsSure world.side → StopsAt of (beneath old.ledger before) (beneath new after) world.side.chain false (IsFirstMove world.side said) e = λ sure. rw ledger_is at (stopped world.side stood.start sure at from) in
     let f : world.side.sure ≡ false → Fails of (beneath old.ledger before) (beneath new after) world.side.chain false e = λ un. rw ledger_is at (lost world.side stood.start un at from) in
     line_failed of old.ledger new before after world left (n.rest ++ stood.said) e said from.still all_told

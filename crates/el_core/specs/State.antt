@@ -11,6 +11,7 @@ use Rattle.el_sessions.specs.Sessions.{Subscription}
 use Rattle.el_subs.specs.Told as status_told
 use Rattle.el_subs.specs.Told.{status, is_touched, IsTold}
 use Rattle.el_status.specs.Untouched.{LooksSame}
+use Rattle.el_side.specs.declared.caches.Caches.{Caches}
 use Rattle.el_side.specs.declared.holdings.Holdings.{Holdings}
 use Rattle.el_side.specs.Beneath.{Beneath, beneath}
 use Rattle.el_side.specs.NodeSteps.{SetStands}
@@ -28,7 +29,7 @@ pub record ClientState : Type 0 where
   pub session : client.Session
   pub waits : Bool
 
--- the ledger, of some type; what is held beside it; the node's bytes, as a line buffer keeps them; the blocks
+-- the ledger, of some type; what is held beside it; what was computed once; the node's bytes, as a line buffer keeps them; the blocks
 -- that its last tip line is still to put in; the clients, in the order in which they came; the one whose
 -- bytes came last, until all of its lines are met; a client too many that isn't closed yet; the tip before
 -- the node's last line; and the script hashes that this line touched so far, of those to which clients
@@ -36,6 +37,7 @@ pub record ClientState : Type 0 where
 pub record State (G : Type 0) : Type 0 where
   pub ledger : G
   pub holdings : Holdings
+  pub caches : Caches
   pub node : LineState
   pub ahead : List Node
   pub clients : List ClientState
@@ -224,7 +226,7 @@ pub record Stands {G : Type 0} (stands : G → Chain → Type 0) (s : State G) (
   pub found : s.holdings.tree ≡ world.side.found
   pub ahead : s.ahead ≡ world.side.ahead
   pub start : Chain
-  pub set : SetStands s.holdings world.side start
+  pub set : SetStands s.holdings s.caches world.side start
   pub ordered : List Event
   pub node : NodeLeaves s.node world.heard ordered
   pub said : List Event

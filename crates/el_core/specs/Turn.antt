@@ -2,7 +2,7 @@
 use Rattle.std.specs.Prelude.{◌≡◌, ◌⊎◌, ℕ, Bool, true, List, [], ◌∷◌, ◌++◌, map, Option, Some, None, option_map, Result, Ok, Contains}
 use Rattle.std.specs.List.{AllByRecursion}
 use Rattle.el_outside.specs.declared.archive.Archive as archive
-use Rattle.el_outside.specs.Devices.{Device}
+use Rattle.el_side.specs.Deeds.{Deed}
 use Rattle.el_outside.specs.Files.{AllGrow}
 use Rattle.el_outside.specs.Trace.{Message, Closing}
 use Rattle.el_outside.specs.declared.link.Why.{Why}
@@ -63,7 +63,7 @@ pub record TookTurn {G A : Type 0} (of : Ghosts G A) (was now : Serving G A) (wo
     (left : List Event) (outs : model.Outs) : Type 0 where
   pub done : List Event
   pub rest : List Event
-  pub losses : List Device
+  pub losses : List Deed
   pub next : World
   pub whole : left ≡ done ++ rest
   pub turn : OneTurn of.files world done outs losses next
@@ -93,7 +93,7 @@ stop_of fault.Memory = by_memory
 
 -- it stops in the turn itself, and not in sending what that gave
 abbrev pub IsWithin : {A : Type 0} {of_files : archive.Ghosts A} {world : World} {left : List Event}
-    {stop : Stop} {sent : List Message} {closings : List Closing} {losses : List Device}
+    {stop : Stop} {sent : List Message} {closings : List Closing} {losses : List Deed}
     → Stops of_files world left stop sent closings losses → Type 0
 IsWithin (disk_failed by nodes silent closed lost) = Unit {0}
 IsWithin (sift_failed by busy silent closed lost) = Unit {0}
@@ -104,7 +104,7 @@ IsWithin (unsent done rest outs failed after front back m lost last next whole t
 
 -- The block files had failed in it, so that no move was made.
 abbrev pub KeepsChain : {A : Type 0} {of_files : archive.Ghosts A} {world : World} {left : List Event}
-    {stop : Stop} {sent : List Message} {closings : List Closing} {losses : List Device}
+    {stop : Stop} {sent : List Message} {closings : List Closing} {losses : List Deed}
     → Stops of_files world left stop sent closings losses → Type 0
 KeepsChain (disk_failed by nodes silent closed lost) = ⊥
 KeepsChain (sift_failed by busy silent closed lost) = Unit {0}
@@ -118,7 +118,7 @@ KeepsChain (unsent done rest outs failed after front back m lost last next whole
 -- stands for then.
 pub record TurnFailed {G A : Type 0} (of : Ghosts G A) (was now : Beneath G A) (world : World)
     (left : List Event) (e : QueryFault) : Type 0 where
-  pub losses : List Device
+  pub losses : List Deed
   pub stops : Stops of.files world left (stop_of e) [] [] losses
   pub within : IsWithin stops
   pub rose : Lost of was now losses

@@ -14,6 +14,7 @@ ghost use Rattle.el_lines.specs.LineStates.{as_listed, held};
 ghost use Rattle.el_sessions.specs.Sessions.{Edits};
 ghost use Rattle.el_core.specs.State.{HasGivenAll, HasNoWork, IsHeardOut, work_of_client};
 ghost use Rattle.el_core.specs.Turn.{messages_of, outs_of};
+ghost use Rattle.el_side.specs.Caching.{CachesStay};
 ghost use Rattle.el_side.specs.NodeSteps.{IsSettled};
 ghost use Rattle.el_core.specs.within.Clients.{IsFresh, Keeps, Gives, NextIsLine, LineAnswered, Answers, ClientTurn, IsToTell, left_if, told_client};
 
@@ -25,7 +26,7 @@ use el_model::{Ledger, QueryFault};
 use el_outside::{Archive, Peer, Why};
 use el_replies::{LineReply, reply_line};
 use el_sessions::{Session, Subs};
-use el_side::Holdings;
+use el_side::{Caches, Holdings};
 use el_subs::notify;
 use std::alloc::Global;
 use std::marker::Model;
@@ -267,16 +268,18 @@ fn answer_line<G: Ledger, A: Archive>(
     ledger: &mut G,
     archive: &mut A,
     holdings: &Holdings,
+    caches: &mut Caches,
     client: &mut Client,
     line: &[u8],
 ) -> (Outs, bool)
     requires live { G.is_live ledger.old }
     ensures answered { let of = ghosts ⟦<G as Ledger>⟧ ⟦<A as Archive>⟧ in
         let was = beneath ledger.old archive.old in (side : Side)
-        → IsSettled of was holdings.now side
+        → IsSettled of was holdings.now caches.old side
         → LineAnswered A.tells side (Lost of was (beneath ledger.new archive.new))
         client.old.peer line.now client.old.session client.new.session (outs_of result.0) result.1 }
     ensures quiet { Asked ⟦<G as Ledger>⟧ ledger.old ledger.new }
+    ensures caches { CachesStay ⟦<G as Ledger>⟧ ledger.old caches.old caches.new }
     ensures keeps { A.tells → AllGrow (A.bytes archive.old) (A.bytes archive.new) }
     ensures disk_more { G.faults ledger.old ≤ G.faults ledger.new }
     ensures archive_more { A.faults archive.old ≤ A.faults archive.new }
@@ -287,7 +290,15 @@ fn answer_line<G: Ledger, A: Archive>(
     let Ok(room) = room_for_one(alloc) else {
         return (closing(alloc, peer, Why::Memory), false);
     };
-    match reply_line(alloc, ledger, archive, holdings, &mut client.session, line) {
+    match reply_line(
+        alloc,
+        ledger,
+        archive,
+        holdings,
+        caches,
+        &mut client.session,
+        line,
+    ) {
         Ok(reply) => {
             let stays = !reply.closes;
             (replying(alloc, room, peer, reply), stays)
@@ -304,16 +315,18 @@ fn answer<G: Ledger, A: Archive>(
     ledger: &mut G,
     archive: &mut A,
     holdings: &Holdings,
+    caches: &mut Caches,
     client: &mut Client,
     met: LineEvent,
 ) -> (Outs, bool)
     requires live { G.is_live ledger.old }
     ensures answers { let of = ghosts ⟦<G as Ledger>⟧ ⟦<A as Archive>⟧ in
         let was = beneath ledger.old archive.old in (side : Side)
-        → IsSettled of was holdings.now side
+        → IsSettled of was holdings.now caches.old side
         → Answers A.tells side (Lost of was (beneath ledger.new archive.new))
         client.old.peer met client.old.session client.new.session (outs_of result.0) result.1 }
     ensures quiet { Asked ⟦<G as Ledger>⟧ ledger.old ledger.new }
+    ensures caches { CachesStay ⟦<G as Ledger>⟧ ledger.old caches.old caches.new }
     ensures keeps { A.tells → AllGrow (A.bytes archive.old) (A.bytes archive.new) }
     ensures disk_more { G.faults ledger.old ≤ G.faults ledger.new }
     ensures archive_more { A.faults archive.old ≤ A.faults archive.new }
@@ -326,7 +339,15 @@ fn answer<G: Ledger, A: Archive>(
             (closing(alloc, peer, Why::Long), false)
         }
         LineEvent::Line(line) => {
-            answer_line(alloc, ledger, archive, holdings, client, line.as_slice())
+            answer_line(
+                alloc,
+                ledger,
+                archive,
+                holdings,
+                caches,
+                client,
+                line.as_slice(),
+            )
         }
     }
 }
@@ -339,15 +360,17 @@ pub fn client_turn<G: Ledger, A: Archive>(
     ledger: &mut G,
     archive: &mut A,
     holdings: &Holdings,
+    caches: &mut Caches,
     client: &mut Client,
 ) -> (Option<Outs>, bool)
     requires live { G.is_live ledger.old }
     ensures turn { let of = ghosts ⟦<G as Ledger>⟧ ⟦<A as Archive>⟧ in
         let was = beneath ledger.old archive.old in (side : Side)
-        → IsSettled of was holdings.now side
+        → IsSettled of was holdings.now caches.old side
         → ClientTurn A.tells side (Lost of was (beneath ledger.new archive.new))
         client.old result.0 (left_if result.1 client.new) }
     ensures quiet { Asked ⟦<G as Ledger>⟧ ledger.old ledger.new }
+    ensures caches { CachesStay ⟦<G as Ledger>⟧ ledger.old caches.old caches.new }
     ensures keeps { A.tells → AllGrow (A.bytes archive.old) (A.bytes archive.new) }
     ensures still { IfNone result.0 ((G.faults ledger.new ≡ G.faults ledger.old)
         × (A.faults archive.new ≡ A.faults archive.old)) }
@@ -368,7 +391,7 @@ pub fn client_turn<G: Ledger, A: Archive>(
         Err(_) => (Some(closing(alloc, peer, Why::Memory)), false),
         Ok(None) => (None, true),
         Ok(Some(met)) => {
-            let (outs, stays) = answer(alloc, ledger, archive, holdings, client, met);
+            let (outs, stays) = answer(alloc, ledger, archive, holdings, caches, client, met);
             (Some(outs), stays)
         }
     }

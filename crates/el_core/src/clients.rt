@@ -6,6 +6,7 @@ ghost use Rattle.el_model.specs.LedgerCalls.{Asked};
 ghost use Rattle.el_side.specs.Beneath.{Lost, beneath, ghosts};
 ghost use Rattle.el_side.specs.Side.{Side};
 ghost use Rattle.el_core.specs.Arrivals.{kept_clients};
+ghost use Rattle.el_side.specs.Caching.{CachesStay};
 ghost use Rattle.el_side.specs.NodeSteps.{IsSettled};
 ghost use Rattle.el_core.specs.Turn.{outs_of};
 ghost use Rattle.el_core.specs.within.Clients.{IsPlace, IsFirstWaiting, HearsAt, ClientTurn, TurnsAt, IsToTell, TellTurn, TellsAt, all_wait, replaced};
@@ -20,7 +21,7 @@ use el_base::{Hash32, OutOfMemory};
 use el_chain::Touched;
 use el_model::Ledger;
 use el_outside::{Archive, Peer, Why};
-use el_side::Holdings;
+use el_side::{Caches, Holdings};
 use std::alloc::Global;
 use std::marker::Model;
 
@@ -185,16 +186,18 @@ impl Clients {
         ledger: &mut G,
         archive: &mut A,
         holdings: &Holdings,
+        caches: &mut Caches,
         i: usize,
     ) -> (Option<Outs>, bool)
         requires inside { i < length self.old }
         requires live { G.is_live ledger.old }
         ensures turn { let of = ghosts ⟦<G as Ledger>⟧ ⟦<A as Archive>⟧ in
             let was = beneath ledger.old archive.old in TurnsAt (λ c left. (side : Side)
-            → IsSettled of was holdings.now side
+            → IsSettled of was holdings.now caches.old side
             → ClientTurn A.tells side (Lost of was (beneath ledger.new archive.new)) c result.0 left)
             i self.old result.0 result.1 self.new }
         ensures quiet { Asked ⟦<G as Ledger>⟧ ledger.old ledger.new }
+        ensures caches { CachesStay ⟦<G as Ledger>⟧ ledger.old caches.old caches.new }
         ensures keeps { A.tells → AllGrow (A.bytes archive.old) (A.bytes archive.new) }
         ensures still { IfNone result.0 ((G.faults ledger.new ≡ G.faults ledger.old)
             × (A.faults archive.new ≡ A.faults archive.old)) }
@@ -203,7 +206,14 @@ impl Clients {
     {
         let peer = self.list[i].peer();
         let known = self.list[i].subs().held();
-        let (outs, stays) = client_turn(alloc, ledger, archive, holdings, &mut self.list[i]);
+        let (outs, stays) = client_turn(
+            alloc,
+            ledger,
+            archive,
+            holdings,
+            caches,
+            &mut self.list[i],
+        );
         let Some(outs) = outs else {
             return (None, true);
         };

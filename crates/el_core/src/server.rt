@@ -8,6 +8,7 @@ ghost use Rattle.el_side.specs.UnderWay.{IsFirstMove};
 ghost use Rattle.el_model.specs.LedgerCalls.{Asked, KeepsBeside};
 ghost use Rattle.el_model.specs.declared.fault.QueryFault.TheVariants as turn_fault;
 ghost use Rattle.el_lines.specs.Lines.{too_long};
+ghost use Rattle.el_side.specs.Caching.{CachesStand, CachesStay};
 ghost use Rattle.el_side.specs.Beneath.{Lost, beneath, ghosts};
 ghost use Rattle.el_side.specs.NodeSteps.{IsAt, IsSettled};
 ghost use Rattle.el_side.specs.Plans.{plan_of};
@@ -31,7 +32,7 @@ use el_chain::Touched;
 use el_lines::{LineBuffer, LineEvent, NODE_LINE_LIMIT, answer_text};
 use el_model::Ledger;
 use el_outside::{Archive, Arrival, CLIENT_LIMIT, Pace, Peer, Why};
-use el_side::Holdings;
+use el_side::{Caches, Holdings};
 use el_sync::{Ahead, StepFault, move_next, order};
 use std::alloc::Global;
 use std::marker::Model;
@@ -39,9 +40,10 @@ use std::mem;
 use std::thread::Threads;
 
 /// The server's state: the ledger that it answers from, the headers that were found and the unconfirmed set,
-/// the node's bytes and what its last tip line is still to do, its clients, which of them speaks, a client
-/// too many that isn't closed yet, and for the telling of clients the tip before the node's last line and
-/// what this line touched. Contracts see it as a `State`, which stands for a `World`.
+/// what was computed once of the chain, the node's bytes and what its last tip line is still to do, its
+/// clients, which of them speaks, a client too many that isn't closed yet, and for the telling of clients the
+/// tip before the node's last line and what this line touched. Contracts see it as a `State`, which stands for
+/// a `World`.
 ///
 /// An arrival is taken by `take`; then `turn` is called until it answers None, and only then the next arrival
 /// is taken. What a turn gives is sent and closed before the next turn, and a client to whom a message can't
@@ -51,6 +53,7 @@ pub struct Server<G: Ledger> {
     alloc: Global,
     ledger: G,
     holdings: Holdings,
+    caches: Caches,
     node: LineBuffer,
     ahead: Ahead,
     clients: Clients,
@@ -74,6 +77,7 @@ impl<G: Ledger> Model for Server<G> {
     ghost view = { λ s. record {
       ledger = s.ledger;
       holdings = s.holdings;
+      caches = s.caches;
       node = s.node.state;
       ahead = s.ahead;
       clients = s.clients;
@@ -90,11 +94,12 @@ impl<G: Ledger> Model for Server<G> {
 impl<G: Ledger> Server<G> {
     /// A server without clients, whose node has said nothing, so that nothing unconfirmed is kept. Takes no
     /// memory.
-    pub fn new(alloc: Global, ledger: G, holdings: Holdings) -> Server<G>
+    pub fn new(alloc: Global, ledger: G, holdings: Holdings, caches: Caches) -> Server<G>
         requires live { G.is_live ledger }
         ensures ledger { result.ledger ≡ ledger }
         ensures stands { (sure : Bool) (chain : Chain) (files : ℕ → List ℕ)
-            → (sure ≡ true → G.stands ledger chain) → holdings.pool.entries ≡ [] → Stands G.stands result
+            → (sure ≡ true → G.stands ledger chain) → (sure ≡ true → CachesStand caches chain chain)
+            → holdings.pool.entries ≡ [] → Stands G.stands result
             (initial_world sure chain holdings.magic holdings.pool.limits holdings.tree files) [] }
         ensures idle { IsIdle result }
         ensures clients { result.clients ≡ [] }
@@ -103,6 +108,7 @@ impl<G: Ledger> Server<G> {
             alloc,
             ledger,
             holdings,
+            caches,
             node: LineBuffer::new(alloc, NODE_LINE_LIMIT),
             ahead: Ahead::none(alloc),
             clients: Clients::new(alloc),
@@ -121,6 +127,7 @@ impl<G: Ledger> Server<G> {
             alloc: _,
             ledger,
             holdings: _,
+            caches: _,
             node: _,
             ahead: _,
             clients: _,
@@ -226,24 +233,25 @@ impl<G: Ledger> Server<G> {
         requires some { self.old.ahead ≢ [] }
         ensures moving { let of = ghosts ⟦<G as Ledger>⟧ ⟦<A as Archive>⟧ in
             let was = serving self.old archive.old in (side : Side) (start : Chain)
-            → IsAt of (beneath_of was) self.old.holdings side start → side.found ≡ self.old.holdings.tree
+            → IsAt of (beneath_of was) self.old.holdings self.old.caches side start → side.found ≡ self.old.holdings.tree
             → IfOk result (Answered of (Moving ⟦<A as Archive>⟧ side 0 self.old.ahead) was
             (serving self.new archive.new) side start) }
         ensures sends { IfOk result (λ o. (text : List ℕ) × (outs_of o ≡ reply_to 0 text)) }
         ensures stopped { let of = ghosts ⟦<G as Ledger>⟧ ⟦<A as Archive>⟧ in
             let was = beneath self.old.ledger archive.old in (side : Side) (start : Chain)
-            → IsSure side → IsAt of was self.old.holdings side start → IfErr result (
+            → IsSure side → IsAt of was self.old.holdings self.old.caches side start → IfErr result (
             StopsAt of was (beneath self.new.ledger archive.new) side.chain true
             (λ (p : moves.Plan). p ≡ plan_of 0 self.old.ahead)) }
         ensures lost { let of = ghosts ⟦<G as Ledger>⟧ ⟦<A as Archive>⟧ in
             let was = beneath self.old.ledger archive.old in (side : Side) (start : Chain)
-            → side.sure ≡ false → IsAt of was self.old.holdings side start → IfErr result (
+            → side.sure ≡ false → IsAt of was self.old.holdings self.old.caches side start → IfErr result (
             Fails of was (beneath self.new.ledger archive.new) side.chain true) }
         ensures some { self.old.ahead ≢ [] }
         ensures fewer { OnOk result (length self.new.ahead < length self.old.ahead) }
         ensures same { self.new ≡ record self.old {
           ledger = self.new.ledger;
           holdings = self.new.holdings;
+          caches = self.new.caches;
           ahead = self.new.ahead;
           touched = self.new.touched;
         } }
@@ -261,6 +269,7 @@ impl<G: Ledger> Server<G> {
             self.alloc,
             &mut self.ledger,
             &mut self.holdings,
+            &mut self.caches,
             rest,
             archive,
             pace,
@@ -300,20 +309,20 @@ impl<G: Ledger> Server<G> {
         requires told { waiting self.old.clients ≡ [] }
         ensures node { let of = ghosts ⟦<G as Ledger>⟧ ⟦<A as Archive>⟧ in
             let begun = begun_at (G.tip self.old.ledger) self.old in (side : Side) (start : Chain)
-            → IsAt of (beneath self.old.ledger archive.old) self.old.holdings side start
+            → IsAt of (beneath self.old.ledger archive.old) self.old.holdings self.old.caches side start
             → IsFrom self.old.holdings side
             → IfOk result (Answered of (OrdersLine ⟦<A as Archive>⟧ side (as_listed met))
             (serving begun archive.old) (serving self.new archive.new) side start) }
         ensures sends { IfOk result (λ o. (text : List ℕ) × (outs_of o ≡ reply_to 0 text)) }
         ensures stopped { let of = ghosts ⟦<G as Ledger>⟧ ⟦<A as Archive>⟧ in
             let was = beneath self.old.ledger archive.old in (side : Side) (start : Chain)
-            → IsSure side → IsAt of was self.old.holdings side start → IsFrom self.old.holdings side
+            → IsSure side → IsAt of was self.old.holdings self.old.caches side start → IsFrom self.old.holdings side
             → IfErr result (
             StopsAt of was (beneath self.new.ledger archive.new) side.chain false
             (IsFirstMove side (as_listed met))) }
         ensures lost { let of = ghosts ⟦<G as Ledger>⟧ ⟦<A as Archive>⟧ in
             let was = beneath self.old.ledger archive.old in (side : Side) (start : Chain)
-            → side.sure ≡ false → IsAt of was self.old.holdings side start → IsFrom self.old.holdings side
+            → side.sure ≡ false → IsAt of was self.old.holdings self.old.caches side start → IsFrom self.old.holdings side
             → IfErr result (Fails of was (beneath self.new.ledger archive.new) side.chain false) }
         ensures still { self.old.ahead ≡ [] }
         ensures told { waiting self.old.clients ≡ [] }
@@ -324,6 +333,7 @@ impl<G: Ledger> Server<G> {
         ensures same { self.new ≡ record self.old {
           ledger = self.new.ledger;
           holdings = self.new.holdings;
+          caches = self.new.caches;
           ahead = self.new.ahead;
           clients = self.new.clients;
           before = self.new.before;
@@ -343,6 +353,7 @@ impl<G: Ledger> Server<G> {
             self.alloc,
             &mut self.ledger,
             &mut self.holdings,
+            &mut self.caches,
             archive,
             met,
             pace,
@@ -409,9 +420,10 @@ impl<G: Ledger> Server<G> {
         requires live { G.is_live self.old.ledger }
         ensures speaker_steps { let of = ghosts ⟦<G as Ledger>⟧ ⟦<A as Archive>⟧ in
             let was = beneath self.old.ledger archive.old in (side : Side)
-            → IsSettled of was self.old.holdings side → SpeakerSteps A.tells side
+            → IsSettled of was self.old.holdings self.old.caches side → SpeakerSteps A.tells side
             (Lost of was (beneath self.new.ledger archive.new)) self.old result self.new }
         ensures quiet { Asked ⟦<G as Ledger>⟧ self.old.ledger self.new.ledger }
+        ensures caches { CachesStay ⟦<G as Ledger>⟧ self.old.ledger self.old.caches self.new.caches }
         ensures keeps { A.tells → AllGrow (A.bytes archive.old) (A.bytes archive.new) }
         ensures still { IfNone result ((G.faults self.new.ledger ≡ G.faults self.old.ledger)
             × (A.faults archive.new ≡ A.faults archive.old)) }
@@ -419,6 +431,7 @@ impl<G: Ledger> Server<G> {
         ensures archive_more { A.faults archive.old ≤ A.faults archive.new }
         ensures same { self.new ≡ record self.old {
           ledger = self.new.ledger;
+          caches = self.new.caches;
           clients = self.new.clients;
           speaker = self.new.speaker;
         } }
@@ -435,9 +448,14 @@ impl<G: Ledger> Server<G> {
             self.speaker = None;
             return None;
         };
-        let (outs, stays) = self
-            .clients
-            .turn(self.alloc, &mut self.ledger, archive, &self.holdings, i);
+        let (outs, stays) = self.clients.turn(
+            self.alloc,
+            &mut self.ledger,
+            archive,
+            &self.holdings,
+            &mut self.caches,
+            i,
+        );
         if !stays {
             self.speaker = None;
             return outs;
@@ -473,9 +491,10 @@ impl<G: Ledger> Server<G> {
         requires live { G.is_live self.old.ledger }
         ensures peers { let of = ghosts ⟦<G as Ledger>⟧ ⟦<A as Archive>⟧ in
             let was = beneath self.old.ledger archive.old in (side : Side)
-            → IsSettled of was self.old.holdings side → PeersTurn A.tells side
+            → IsSettled of was self.old.holdings self.old.caches side → PeersTurn A.tells side
             (Lost of was (beneath self.new.ledger archive.new)) self.old result self.new }
         ensures quiet { Asked ⟦<G as Ledger>⟧ self.old.ledger self.new.ledger }
+        ensures caches { CachesStay ⟦<G as Ledger>⟧ self.old.ledger self.old.caches self.new.caches }
         ensures keeps { A.tells → AllGrow (A.bytes archive.old) (A.bytes archive.new) }
         ensures still { IfNone result ((G.faults self.new.ledger ≡ G.faults self.old.ledger)
             × (A.faults archive.new ≡ A.faults archive.old)) }
@@ -483,6 +502,7 @@ impl<G: Ledger> Server<G> {
         ensures archive_more { A.faults archive.old ≤ A.faults archive.new }
         ensures same { self.new ≡ record self.old {
           ledger = self.new.ledger;
+          caches = self.new.caches;
           clients = self.new.clients;
           speaker = self.new.speaker;
           surplus = self.new.surplus;

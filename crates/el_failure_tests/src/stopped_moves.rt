@@ -69,7 +69,7 @@ const SIFTED: Moving = Moving {
 };
 
 // The number of the redo file.
-const REDO: u32 = 9;
+const REDO: u32 = 29;
 
 // The disk without what stands behind the closed gate of the redo file, which says nothing. Each commit of an
 // index's first block leaves much there.
@@ -310,7 +310,7 @@ fn a_move_with_a_set_stopped_at_each_call(rt: HostRuntime) -> Result<(), Fail> {
 }
 
 // More calls than an opening makes here.
-const OPENING: u64 = 200;
+const OPENING: u64 = 600;
 
 // Whether an opening of the disk is stopped; and whether a crash then leaves one of the two chains.
 fn opens_to_one<W: Threads + Sync>(

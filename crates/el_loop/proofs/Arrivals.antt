@@ -17,7 +17,7 @@ use Rattle.el_core.specs.Arrivals.{TookArrival, Quietly, none, joined, departed}
 use Rattle.el_loop.specs.within.Sending.{AllOpen}
 use Rattle.el_loop.specs.within.Progress.{AllGhosts, Snapshot, snapshot, failed, Finished, Stopped, StoppedIn}
 use Rattle.el_loop.proofs.Openness.{client_open, some_peer}
-use Rattle.el_outside.proofs.Devices.{all_rose_none}
+use Rattle.el_side.proofs.Deeds.{all_rose_none}
 use Rattle.el_loop.proofs.Progresses.{turns_then}
 
 -- clients stay open where another peer or nobody leaves

@@ -6,7 +6,7 @@ use Rattle.el_outside.proofs.Traces.{goes_more, sent_stays_open, other_stays_ope
 use Rattle.el_chain.specs.Chains.{Chain}
 use Rattle.el_world.specs.World.{World, Event, Outs, is_client}
 use Rattle.el_world.specs.Run.{Closes as ToClose}
-use Rattle.el_outside.specs.Devices.{Device}
+use Rattle.el_side.specs.Deeds.{Deed}
 use Rattle.el_lines.proofs.Cuts.{either}
 use Rattle.el_core.specs.State.{State}
 use Rattle.el_loop.specs.within.Sending.{AllOpen, CanClose, Delivering, whole, broken, SentAll, closing_left, Closes}
@@ -15,7 +15,7 @@ use Rattle.el_loop.proofs.Openness.{stranger_left, all_strangers}
 use Rattle.el_loop.proofs.Sendings.{delivers}
 
 still_stranger : (w : World) (c : Option Closing) (ms sent : List Message) (cs : List Closing)
-    (ls : List Device) (next : World) (lost : Option ℕ) (p : ℕ) → is_client p w ≡ false
+    (ls : List Deed) (next : World) (lost : Option ℕ) (p : ℕ) → is_client p w ≡ false
     → Delivering w ms c sent cs ls next lost → is_client p next ≡ false
 still_stranger w c ms sent cs ls next None p missing (whole is none lossless same) = rw same missing
 still_stranger w c ms sent cs ls next (Some q) p missing
@@ -23,7 +23,7 @@ still_stranger w c ms sent cs ls next (Some q) p missing
     rw gone (stranger_left w.sessions p m.peer missing)
 
 same_files : (w : World) (c : Option Closing) (ms sent : List Message) (cs : List Closing)
-    (ls : List Device) (next : World) (lost : Option ℕ) → Delivering w ms c sent cs ls next lost
+    (ls : List Deed) (next : World) (lost : Option ℕ) → Delivering w ms c sent cs ls next lost
     → next.side.files ≡ w.side.files
 same_files w c ms sent cs ls next None (whole is none lossless same) = rw same refl
 same_files w c ms sent cs ls next (Some q)
@@ -39,7 +39,7 @@ abbrev pub IsApart : ℕ → Option ℕ → Type 0
 IsApart p lost = (q : ℕ) → lost ≡ Some q → (p == q) ≡ false
 
 stays_open : (s t : Trace) (w : World) (c : Option Closing) (ms sent : List Message) (cs : List Closing)
-    (ls : List Device) (next : World) (lost : Option ℕ) (p : ℕ) → IsTrue (is_open s p) → IsApart p lost
+    (ls : List Deed) (next : World) (lost : Option ℕ) (p : ℕ) → IsTrue (is_open s p) → IsApart p lost
     → Delivering w ms c sent cs ls next lost → GoesOn s t [] sent cs → IsTrue (is_open t p)
 stays_open s t w c ms sent cs ls next None p open' apart (whole is none lossless same) goes =
     sent_stays_open s t p sent open' (rw none at goes)
@@ -61,7 +61,7 @@ not_lost w None p q missing apart (inr is) = absurd is
 not_lost w (Some c) p q missing apart (inr is) = rw is at apart
 
 stranger_apart : (w : World) (c : Option Closing) (ms sent : List Message) (cs : List Closing)
-    (ls : List Device) (next : World) (lost : Option ℕ) (p : ℕ) → is_client p w ≡ false → IsNotClosed p c
+    (ls : List Deed) (next : World) (lost : Option ℕ) (p : ℕ) → is_client p w ≡ false → IsNotClosed p c
     → Delivering w ms c sent cs ls next lost → IsApart p lost
 stranger_apart w c ms sent cs ls next None p missing apart d q e = absurd cc
 stranger_apart w c ms sent cs ls next (Some r) p missing apart
@@ -94,7 +94,7 @@ left_apart (Some p) (Some d) c is q e = elim (either (d.peer == p)) [
 
 -- a closing goes over the link
 closes_one : (before mid after : Trace) (w next : World) (ms sent : List Message) (cs : List Closing)
-    (ls : List Device) (lost : Option ℕ) (closing left : Option Closing)
+    (ls : List Deed) (lost : Option ℕ) (closing left : Option Closing)
     → ((c : Closing) → left ≡ Some c → closing ≡ Some c) → ((c : Closing) → left ≡ Some c → IsApart c.peer lost)
     → CanClose w before closing
     → Delivering w ms closing sent cs ls next lost → GoesOn before mid [] sent cs

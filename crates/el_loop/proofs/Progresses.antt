@@ -2,12 +2,12 @@
 use Rattle.std.proofs.Common.{◌≡◌, inl, inr, ℕ, List, [], ◌++◌, None, refl, ap, sym, ◌∙◌, append-nil, append_assoc, Option}
 use Rattle.el_outside.specs.declared.archive.Archive as archive
 use Rattle.el_outside.specs.Counts.{RoseBy}
-use Rattle.el_outside.specs.Devices as device
-use Rattle.el_outside.specs.Devices.{Device, failures, faults, Rose}
+use Rattle.el_side.specs.Deeds as device
+use Rattle.el_side.specs.Deeds.{Deed, failures, faults, Rose}
 use Rattle.el_outside.specs.Files.{AllGrow}
 use Rattle.el_outside.specs.Trace.{Message, Closing}
 use Rattle.el_outside.specs.declared.link.Why.{Why}
-use Rattle.el_outside.proofs.Devices.{failures_on, all_rose_none, all_rose_on}
+use Rattle.el_side.proofs.Deeds.{failures_on, all_rose_none, all_rose_on}
 use Rattle.el_outside.proofs.Traces.{goes_none, goes_more, rose_none, all_grow_none, all_grow_more}
 use Rattle.el_chain.specs.Chains.{Chain}
 use Rattle.el_chain.specs.Moves.{StoodBy}
@@ -27,47 +27,51 @@ use Rattle.el_loop.specs.within.Progress.{AllGhosts, ClientsAreOpen, CanDeliver,
 use Rattle.el_loop.proofs.Turned.{after_turn, still_waiting, turn_to_one}
 
 -- these losses are of calls of the link
-record OfLink (losses : List Device) : Type 0 where
+record OfLink (losses : List Deed) : Type 0 where
   no_archive : failures device.archive losses ≡ 0
   no_disk : failures device.disk losses ≡ 0
+  no_relay : failures device.relay losses ≡ 0
 
-lost_more : (reason : Why) (ls : List Device) → IsDeparture reason → OfLink ls → OfLink (lost_by reason ++ ls)
-lost_more reason ls (inl gone) h = rw gone (record { no_archive = h.no_archive; no_disk = h.no_disk })
+lost_more : (reason : Why) (ls : List Deed) → IsDeparture reason → OfLink ls → OfLink (lost_by reason ++ ls)
+lost_more reason ls (inl gone) h = rw gone (record { no_archive = h.no_archive; no_disk = h.no_disk; no_relay = h.no_relay })
 lost_more reason ls (inr memory) h = rw memory h
 
 -- sending loses nothing but calls of the link
 sending_loses : (w : World) (ms : List Message) (c : Option Closing) (sent : List Message) (cs : List Closing)
-    (ls : List Device) (next : World) → Delivers w ms c sent cs ls next → OfLink ls
-sending_loses w ms c sent cs ls next (all _ _) = record { no_archive = refl; no_disk = refl }
+    (ls : List Deed) (next : World) → Delivers w ms c sent cs ls next → OfLink ls
+sending_loses w ms c sent cs ls next (all _ _) = record { no_archive = refl; no_disk = refl; no_relay = refl }
 sending_loses w ms c sent cs ls next (sends w' m ms' c' sent' cs' ls' next' d) =
     sending_loses w' ms' c' sent' cs' ls' next' d
 sending_loses w ms c sent cs ls next (loses w' m ms' c' reason sent' cs' ls' next' client departure d) =
     lost_more reason ls' departure (sending_loses _ _ _ sent' cs' ls' next' d)
 
-last_lost : (stop : Stop) (ls : List Device) → LostBy stop ls → OfLink ls
+last_lost : (stop : Stop) (ls : List Deed) → LostBy stop ls → OfLink ls
 last_lost by_disk ls lost = absurd lost
-last_lost by_link ls lost = rw lost (record { no_archive = refl; no_disk = refl })
-last_lost by_memory ls lost = rw lost (record { no_archive = refl; no_disk = refl })
+last_lost by_link ls lost = rw lost (record { no_archive = refl; no_disk = refl; no_relay = refl })
+last_lost by_memory ls lost = rw lost (record { no_archive = refl; no_disk = refl; no_relay = refl })
 
-both_of_link : (xs ys : List Device) → OfLink xs → OfLink ys → OfLink (xs ++ ys)
+both_of_link : (xs ys : List Deed) → OfLink xs → OfLink ys → OfLink (xs ++ ys)
 both_of_link xs ys a b = record {
   no_archive = rw (failures_on device.archive xs ys, a.no_archive, b.no_archive) refl;
   no_disk = rw (failures_on device.disk xs ys, a.no_disk, b.no_disk) refl;
+  no_relay = rw (failures_on device.relay xs ys, a.no_relay, b.no_relay) refl;
 }
 
 -- calls of the link failed so often
-link_rose : (low high of_files of_ledger : ℕ) (losses : List Device) → OfLink losses
+link_rose : (low high of_files of_ledger of_relay : ℕ) (losses : List Deed) → OfLink losses
     → RoseBy low high (failures device.link losses)
-    → Rose (faults low of_files of_ledger) (faults high of_files of_ledger) losses
-link_rose low high of_files of_ledger losses alone rose device.link = rose
-link_rose low high of_files of_ledger losses alone rose device.archive = rw alone.no_archive
+    → Rose (faults low of_files of_ledger of_relay) (faults high of_files of_ledger of_relay) losses
+link_rose low high of_files of_ledger of_relay losses alone rose device.link = rose
+link_rose low high of_files of_ledger of_relay losses alone rose device.archive = rw alone.no_archive
     (rose_none of_files)
-link_rose low high of_files of_ledger losses alone rose device.disk = rw alone.no_disk (rose_none of_ledger)
+link_rose low high of_files of_ledger of_relay losses alone rose device.disk = rw alone.no_disk (rose_none of_ledger)
+link_rose low high of_files of_ledger of_relay losses alone rose device.relay = rw alone.no_relay
+    (rose_none of_relay)
 
 -- turns after turns
 pub turns_then : {A : Type 0} (of_files : archive.Ghosts A) (first world last : World)
     (done es : List Event) (ms ns : List Message)
-    (cs ds : List Closing) (ls ks : List Device)
+    (cs ds : List Closing) (ls ks : List Deed)
     → Turns of_files first done ms cs ls world → Turns of_files world es ns ds ks last
     → Turns of_files first (done ++ es) (ms ++ ns) (cs ++ ds) (ls ++ ks) last
 turns_then of_files first world last done es ms ns cs ds ls ks before none =
@@ -88,7 +92,7 @@ turns_then of_files first world last done es ms ns cs ds ls ks before
 
 -- the block files where a turn failed, and the chain that is then in flight
 within_files : {A : Type 0} {of_files : archive.Ghosts A} {world : World} {left : List Event} {stop : Stop}
-    {sent : List Message} {closings : List Closing} {losses : List Device}
+    {sent : List Message} {closings : List Closing} {losses : List Deed}
     (stops : Stops of_files world left stop sent closings losses)
     → IsWithin stops → files_at stops ≡ world.side.files
 within_files (disk_failed by nodes silent closed lost) within = refl
@@ -100,7 +104,7 @@ within_files (unsent done rest outs failed after front back m lost last next who
     within = absurd within
 
 within_flies : {A : Type 0} {of_files : archive.Ghosts A} {world : World} {left : List Event} {stop : Stop}
-    {sent : List Message} {closings : List Closing} {losses : List Device}
+    {sent : List Message} {closings : List Closing} {losses : List Deed}
     (stops : Stops of_files world left stop sent closings losses) → IsWithin stops → (now : ℕ → List ℕ)
     (next : Chain) → (of_files.tells → AllGrow world.side.files now)
     → IsUnderWay (StoodBy of_files now) world.side.chain (IsMoveOf world left) next
@@ -180,7 +184,7 @@ module _ {G A K : Type 0} (of : AllGhosts G A K) where
       }
 
   -- what was lost in a turn, and in sending what it gave
-  turn_rose : (s turned later : State G) (files files' : A) (k k' : K) (xs ys : List Device)
+  turn_rose : (s turned later : State G) (files files' : A) (k k' : K) (xs ys : List Deed)
       → Lost of.beneath (beneath s.ledger files) (beneath turned.ledger files') xs
       → OfLink ys → RoseBy (of.link.faults k) (of.link.faults k') (failures device.link ys)
       → later.ledger ≡ turned.ledger
@@ -189,9 +193,9 @@ module _ {G A K : Type 0} (of : AllGhosts G A K) where
   turn_rose s turned later files files' k k' xs ys in_turn alone in_sending same =
       rw same (all_rose_on (failed of (snapshot s files k))
       (failed of (snapshot turned files' k))
-      (failed of (snapshot turned files' k')) xs ys (in_turn (of.link.faults k))
+      (failed of (snapshot turned files' k')) xs ys (in_turn (of.link.faults k) 0)
       (link_rose (of.link.faults k) (of.link.faults k') (of.beneath.files.faults files')
-      (of.beneath.ledger.faults turned.ledger)
+      (of.beneath.ledger.faults turned.ledger) 0
       ys alone in_sending))
 
   -- one more turn, and what it gave, sent and closed
@@ -308,7 +312,7 @@ module _ {G A K : Type 0} (of : AllGhosts G A K) where
           rose = all_rose_on (failed of before)
               (failed of (snapshot s files k))
               (failed of (snapshot turned files' k)) p.losses t.losses p.went.rose
-              (t.rose (of.link.faults k));
+              (t.rose (of.link.faults k) 0);
         };
         flight = flight.next;
         is_flight = within_flies t.stops t.within (of.beneath.files.bytes files') flight.next grown flight.way flight.kept;

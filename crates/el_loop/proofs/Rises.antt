@@ -4,12 +4,12 @@ use Rattle.el_outside.specs.Counts.{RoseBy}
 use Rattle.el_outside.specs.declared.link.Why.{Why}
 use Rattle.el_outside.specs.declared.link.SendFault.{SendFault}
 use Rattle.el_outside.specs.declared.link.SendFault.TheVariants as fault
-use Rattle.el_outside.proofs.Devices.{each_more}
+use Rattle.el_side.proofs.Deeds.{each_more}
 use Rattle.el_outside.proofs.Traces.{rose_more, rose_none}
 use Rattle.el_model.specs.declared.fault.QueryFault.{QueryFault}
 use Rattle.el_model.specs.declared.fault.QueryFault.TheVariants as step
 use Rattle.el_core.specs.Turn as turn
-use Rattle.el_outside.specs.Devices.{Device, link, archive, disk, Faults, faults, Rose}
+use Rattle.el_side.specs.Deeds.{Device, link, archive, disk, relay, Faults, faults, Rose}
 use Rattle.el_loop.specs.Counts.{counts, HasRisen, failed_device, IsCaused}
 use Rattle.el_loop.specs.Runs.{next_failed}
 use Rattle.el_loop.specs.declared.end.End.{End}
@@ -89,11 +89,12 @@ counted_more n a b c f g h so_far called more = record {
 }
 
 -- a call of `next` failed
-pub rose_next : (low high of_files of_index : ℕ) → RoseBy low high 1
-    → Rose (faults low of_files of_index) (faults high of_files of_index) next_failed
-rose_next low high of_files of_index rose link = rose
-rose_next low high of_files of_index rose archive = rose_none of_files
-rose_next low high of_files of_index rose disk = rose_none of_index
+pub rose_next : (low high of_files of_index of_relay : ℕ) → RoseBy low high 1
+    → Rose (faults low of_files of_index of_relay) (faults high of_files of_index of_relay) next_failed
+rose_next low high of_files of_index of_relay rose link = rose
+rose_next low high of_files of_index of_relay rose archive = rose_none of_files
+rose_next low high of_files of_index of_relay rose disk = rose_none of_index
+rose_next low high of_files of_index of_relay rose relay = rose_none of_relay
 
 -- the run ends in no fault of a device
 pub caused_end : (turns n a b : ℕ) (f g : Faults) (s : End) → CountedSoFar n a b f g → n ≤ turns
@@ -110,12 +111,12 @@ caused_end turns n a b f g s so_far few sound spent = record {
 
 -- the last call of `next` failed
 pub caused_next : (turns n a b c : ℕ) (f g h : Faults) → CountedSoFar n a b f g → n < turns → RoseBy b c 1
-    → RoseBy (g link) (h link) 1 → h archive ≡ g archive → h disk ≡ g disk
+    → RoseBy (g link) (h link) 1 → h archive ≡ g archive → h disk ≡ g disk → h relay ≡ g relay
     → IsCaused (counts turns a c f h) (failed_device end.LinkFailed) (end.LinkFailed ≡ end.TurnsSpent)
-caused_next turns n a b c f g h so_far few called of_link of_archive of_disk = record {
+caused_next turns n a b c f g h so_far few called of_link of_archive of_disk of_relay = record {
   more = λ device.
       let l = so_far.more device in
-      let m = each_more g h (omega arith) (omega arith) (omega arith) device in
+      let m = each_more g h (omega arith) (omega arith) (omega arith) (omega arith) device in
       omega arith;
   rose = λ device e. of_device device e;
   calls = n + 1;
@@ -128,16 +129,18 @@ caused_next turns n a b c f g h so_far few called of_link of_archive of_disk = r
     of_device link e = let l = so_far.more link in omega arith
     of_device archive e = absurd cc
     of_device disk e = absurd cc
+    of_device relay e = absurd cc
 
 -- an arrival stopped the run
 pub caused_halt : {T : Type 0} (turns n a b c : ℕ) (f g i : Faults) (h : Halt) (r : Result T Halt)
     → CountedSoFar n a b f g → n < turns → RoseBy b c 1 → r ≡ Err h
     → RisesFor (g link) (i link) halt.Link r → g archive ≤ i archive → RisesFor (g disk) (i disk) halt.Disk r
+    → g relay ≤ i relay
     → IsCaused (counts turns a c f i) (failed_device (end_of h)) (end_of h ≡ end.TurnsSpent)
-caused_halt turns n a b c f g i h r so_far few called is of_link of_archive of_disk = record {
+caused_halt turns n a b c f g i h r so_far few called is of_link of_archive of_disk of_relay = record {
   more = λ device.
       let l = so_far.more device in
-      let m = each_more g i of_link.more of_archive of_disk.more device in
+      let m = each_more g i of_link.more of_archive of_disk.more of_relay device in
       omega arith;
   rose = λ device e. risen_after (f device) (g device) (i device) (so_far.more device)
       (of_halt h device e is);
@@ -152,9 +155,11 @@ caused_halt turns n a b c f g i h r so_far few called is of_link of_archive of_d
     of_halt halt.Disk link e is = absurd cc
     of_halt halt.Disk archive e is = absurd cc
     of_halt halt.Disk disk e is = of_disk.rose is
+    of_halt halt.Disk relay e is = absurd cc
     of_halt halt.Link link e is = of_link.rose is
     of_halt halt.Link archive e is = absurd cc
     of_halt halt.Link disk e is = absurd cc
+    of_halt halt.Link relay e is = absurd cc
     of_halt halt.Memory device e is = absurd cc
 
     no_spent : (h : Halt) → end_of h ≡ end.TurnsSpent → ⊥

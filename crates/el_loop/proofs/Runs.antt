@@ -4,12 +4,12 @@ use Rattle.std.proofs.lemmas.List.{map-append}
 use Rattle.el_base.proofs.Lists.{all_more}
 use Rattle.el_outside.specs.declared.archive.Archive as archive
 use Rattle.el_outside.specs.Counts.{RoseBy}
-use Rattle.el_outside.specs.Devices.{Device}
+use Rattle.el_side.specs.Deeds.{Deed}
 use Rattle.el_outside.specs.Files.{AllGrow}
 use Rattle.el_outside.specs.Trace.{Trace, ArrivalWithBytes, opened, brought, closed, quiet, ended, Message, Closing, GoesOn, is_new, leaves as left_by, with_bytes, IsNextArrival}
 use Rattle.el_outside.specs.declared.link.Arrival.{Arrival}
 use Rattle.el_outside.specs.declared.link.Arrival.TheVariants as arrival
-use Rattle.el_outside.proofs.Devices.{all_rose_none, all_rose_on}
+use Rattle.el_side.proofs.Deeds.{all_rose_none, all_rose_on}
 use Rattle.el_outside.proofs.Traces.{goes_none, goes_more, rose_more, rose_none, opened_is_open, new_unused}
 use Rattle.el_chain.specs.Chains.{Chain}
 use Rattle.el_world.specs.World.{World, new_session, after_hearing, events, without_node, without_client, AllTold}
@@ -184,7 +184,7 @@ module _ {G A K : Type 0} (of : AllGhosts G A K) where
   -- an arrival was taken, and this was done for it
   went_further : (a : ArrivalWithBytes) (before mid : Snapshot G A K) (k : K) (now : Snapshot G A K)
       (arrivals : List ArrivalWithBytes) (messages more_messages : List Message)
-      (closings more_closings : List Closing) (losses more_losses : List Device)
+      (closings more_closings : List Closing) (losses more_losses : List Deed)
       → WentOn of before mid arrivals messages closings losses
       → (of.link.tells → GoesOn (of.link.trace mid.link) (of.link.trace k) (a ∷ []) [] [])
       → of.link.faults k ≡ of.link.faults mid.link
@@ -273,7 +273,7 @@ module _ {G A K : Type 0} (of : AllGhosts G A K) where
     pub front : List ArrivalWithBytes
     pub messages : List Message
     pub closings : List Closing
-    pub losses : List Device
+    pub losses : List Deed
     pub world : World
     pub run : Run of.beneath.files first (taken node (front ++ a ∷ [])) messages closings losses world
     pub told : AllTold world
@@ -430,7 +430,7 @@ module _ {G A K : Type 0} (of : AllGhosts G A K) where
               (failed of mid)
               (failed of (snapshot mid.server mid.files k)) g.losses next_failed
               g.went.rose (rose_next (of.link.faults mid.link) (of.link.faults k) (of.beneath.files.faults mid.files)
-              (of.beneath.ledger.faults mid.server.ledger) rose);
+              (of.beneath.ledger.faults mid.server.ledger) 0 rose);
         };
         acknowledged = λ sure. run_last_told nobody sure g.run;
         crash = λ sure. own g.world.side.chain (g.stood.chain (run_sure g.run ∙ sure));

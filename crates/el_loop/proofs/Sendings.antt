@@ -9,11 +9,12 @@ use Rattle.el_outside.specs.Trace.{Trace, Message, Closing, GoesOn, is_open}
 use Rattle.el_outside.specs.declared.link.Why.{Why}
 use Rattle.el_outside.specs.declared.link.SendFault.{SendFault}
 use Rattle.el_outside.specs.declared.link.SendFault.TheVariants as fault
-use Rattle.el_outside.proofs.Devices.{failures_on}
+use Rattle.el_side.proofs.Deeds.{failures_on}
 use Rattle.el_outside.proofs.Traces.{goes_none, goes_more, rose_more, rose_none}
 use Rattle.el_chain.specs.Chains.{Chain}
 use Rattle.el_world.specs.World.{World, Event, is_client, without_client}
-use Rattle.el_outside.specs.Devices.{Device, link, failures}
+use Rattle.el_side.specs.Deeds as deed
+use Rattle.el_side.specs.Deeds.{Deed, link, failures}
 use Rattle.el_world.specs.Run.{lost_by, IsDeparture, Delivers, all, sends, loses as lets_go, to_others, unless_of, Closes as ToClose, Stop}
 use Rattle.el_lines.proofs.Cuts.{either}
 use Rattle.el_core.specs.State.{State, Stands}
@@ -32,7 +33,7 @@ pub unsent_node : {G : Type 0} (tells : Type 0) (p : ℕ) (f : SendFault) (reaso
 unsent_node tells p fault.Gone reason h s before after low high node lost gone memory same =
     rw lost.1 (record {
       node = node;
-      losses = link ∷ [];
+      losses = deed.lost link ∷ [];
       lost = refl;
       rose = gone refl;
       same = refl;
@@ -94,7 +95,7 @@ then_lost w (x ∷ xs) m more c reason client departure =
     (then_lost w xs m more c reason client departure)
 
 -- what was sent, with the closing
-pub delivers : (w : World) (ms sent' : List Message) (cs : List Closing) (ls : List Device) (next : World)
+pub delivers : (w : World) (ms sent' : List Message) (cs : List Closing) (ls : List Deed) (next : World)
     (lost : Option ℕ) (c : Option Closing) → Delivering w ms c sent' cs ls next lost
     → Delivers w ms c sent' (cs ++ option_to_list (closing_left lost c)) ls next
 delivers w ms sent' cs ls next None c (whole is none lossless same) =
@@ -170,7 +171,7 @@ others_and p (x ∷ xs) m not_p = elim (either (x.peer == p)) [
   | inr h ↦ rw h (ap (λ (l : List Message). x ∷ l) (others_and p xs m not_p))
 ]
 
-step_skip : (w : World) (c : Option Closing) (ms sent' : List Message) (cs : List Closing) (ls : List Device)
+step_skip : (w : World) (c : Option Closing) (ms sent' : List Message) (cs : List Closing) (ls : List Deed)
     (next : World) (m : Message) (p : ℕ) → m.peer ≡ p
     → Delivering w ms c sent' cs ls next (Some p) → Delivering w (ms ++ m ∷ []) c sent' cs ls next (Some p)
 step_skip w c ms sent' cs ls next m p is
@@ -179,7 +180,7 @@ step_skip w c ms sent' cs ls next m p is
     departure
     (are ∙ ap (λ (l : List Message). front ++ l) (sym (others_but x.peer more m is))) closed' lost' gone
 
-step_sent : (w : World) (c : Option Closing) (ms sent' : List Message) (cs : List Closing) (ls : List Device)
+step_sent : (w : World) (c : Option Closing) (ms sent' : List Message) (cs : List Closing) (ls : List Deed)
     (next : World) (m : Message) (lost : Option ℕ) → lost ≢ Some m.peer
     → Delivering w ms c sent' cs ls next lost
     → Delivering w (ms ++ m ∷ []) c (sent' ++ m ∷ []) cs ls next lost
@@ -193,7 +194,7 @@ step_sent w c ms sent' cs ls next m (Some p) differs
     ∙ ap (λ (l : List Message). front ++ l)
     (sym (others_and x.peer more m (λ e. differs (ap Some (sym e))))))) closed' lost' gone
 
-step_lost : (w : World) (c : Option Closing) (ms sent' : List Message) (cs : List Closing) (ls : List Device)
+step_lost : (w : World) (c : Option Closing) (ms sent' : List Message) (cs : List Closing) (ls : List Deed)
     (next : World) (m : Message) (reason : Why) → (is_client m.peer w ≡ true) ⊎ ToClose c m.peer
     → IsDeparture reason → Delivering w ms c sent' cs ls next None
     → Delivering w (ms ++ m ∷ []) c sent' (cs ++ record { peer = m.peer; why = reason } ∷ [])
@@ -202,7 +203,7 @@ step_lost w c ms sent' cs ls next m reason client departure (whole is none lossl
     broken ms m [] reason refl client departure (is ∙ sym (append-nil ms)) (rw none refl)
     (rw lossless refl) refl
 
-same_next : (w : World) (c : Option Closing) (ms sent' : List Message) (cs : List Closing) (ls : List Device)
+same_next : (w : World) (c : Option Closing) (ms sent' : List Message) (cs : List Closing) (ls : List Deed)
     (next : World) → Delivering w ms c sent' cs ls next None → next ≡ w
 same_next w c ms sent' cs ls next (whole is none lossless same) = same
 
@@ -304,7 +305,7 @@ all_front P (x ∷ xs) ys h = (h.0, all_front P xs ys h.1)
 
 -- the client that is lost is the one to which all messages go
 lost_is_one : (w : World) (c : Option Closing) (ms sent' : List Message) (cs : List Closing)
-    (ls : List Device) (next : World) (q p : ℕ) → Delivering w ms c sent' cs ls next (Some q)
+    (ls : List Deed) (next : World) (q p : ℕ) → Delivering w ms c sent' cs ls next (Some q)
     → AllByRecursion (λ (m : Message). m.peer ≡ p) ms → q ≡ p
 lost_is_one w c ms sent' cs ls next q p
     (broken front x more reason split client departure are closed' lost' gone) to_one =
@@ -340,7 +341,7 @@ sent_more stands tells w rest c ms m (Some q) out s now later before mid after l
 
 -- the messages before one that was not sent, all of which were
 front_delivers : (w : World) (c : Option Closing) (ms sent' : List Message) (cs : List Closing)
-    (ls : List Device) (next : World) (lost : Option ℕ) (p : ℕ)
+    (ls : List Deed) (next : World) (lost : Option ℕ) (p : ℕ)
     → AllByRecursion (λ (x : Message). x.peer ≡ p) ms → lost ≢ Some p
     → Delivering w ms c sent' cs ls next lost → Delivers w ms None sent' cs ls next
 front_delivers w c ms sent' cs ls next None p to_one differs (whole is none lossless same) =

@@ -14,7 +14,7 @@ use Rattle.el_subs.specs.Told.{status}
 use Rattle.el_subs.specs.Notices.{notices}
 use Rattle.el_side.specs.Side.{Side}
 use Rattle.el_world.specs.World.{World, Session, Event, joins, leaves, says, orders, Outs, IsLed, Takes, Replied, replied, starved, uncounted, Notifies, tells as is_told, fails, unsure, told, begun, outs_of_telling, texts_to, with_session, is_peer, is_client, without_client, client_limit}
-use Rattle.el_outside.specs.Devices.{Device}
+use Rattle.el_side.specs.Deeds.{Deed}
 use Rattle.el_world.specs.Run.{OneTurn, takes, works, notifies, departs}
 use Rattle.el_lines.proofs.Cuts.{either}
 use Rattle.el_core.specs.State.{State, ClientState, Stands, IsSession, SessionsAre, AllVoid, HearsLeft, in_order, losing, IsSaidBy}
@@ -40,13 +40,13 @@ quiet_after trace world outs next q are = record {
 }
 
 -- the node is answered
-by_lead : (leads : NodeAnswer → List Device → Side → Type 0) (world : World) (outs : Outs) (losses : List Device)
+by_lead : (leads : NodeAnswer → List Deed → Side → Type 0) (world : World) (outs : Outs) (losses : List Deed)
     (next : World) → IsLed leads world outs losses next → Quietly world outs next
 by_lead leads world outs losses next l = record { none = rw l.outs_is refl; same = rw l.next_is refl }
 
 -- where a line of the node begins, with which all are to be told
-by_line_of_node : (leads : NodeAnswer → List Device → Side → Type 0) (world : World) (outs : Outs)
-    (losses : List Device) (next : World) → IsLed leads (begun world) outs losses next
+by_line_of_node : (leads : NodeAnswer → List Deed → Side → Type 0) (world : World) (outs : Outs)
+    (losses : List Deed) (next : World) → IsLed leads (begun world) outs losses next
     → Quietly world outs next
 by_line_of_node leads world outs losses next l =
     record { none = rw l.outs_is refl; same = rw l.next_is (peers_begun world.sessions) }
@@ -76,7 +76,7 @@ shut trace world p reason outs next client is gone are = record {
 }
 
 by_line : (tells : Type 0) (trace : Trace) (world : World) (p : ℕ) (bytes : List ℕ) (found : Option Session)
-    (outs : Outs) (losses : List Device) (next : World) → find (is_peer p) world.sessions ≡ found
+    (outs : Outs) (losses : List Deed) (next : World) → find (is_peer p) world.sessions ≡ found
     → Replied tells world p bytes found outs losses next → AllOpen trace world.sessions
     → After trace outs next
 by_line tells trace world p bytes None outs losses next is t are =
@@ -152,7 +152,7 @@ waiting stands s world left p rest stood is =
 
 by_event : {G A : Type 0} (stands : G → Chain → Type 0) (of_files : archive.Ghosts A) (trace : Trace)
     (s : State G)
-    (world : World) (left rest : List Event) (event : Event) (outs : Outs) (losses : List Device)
+    (world : World) (left rest : List Event) (event : Event) (outs : Outs) (losses : List Deed)
     (next : World)
     → Stands stands s world left → left ≡ event ∷ rest → Takes of_files world event outs losses next
     → ClientsAreOpen s world trace → After trace outs next
@@ -178,7 +178,7 @@ by_event stands of_files trace s world left rest (orders met) outs losses next s
     quiet_after trace world outs next (by_line_of_node _ world outs losses next t) are.sessions
 
 -- who is told, or closed since the index's device failed
-by_notice : (trace : Trace) (world : World) (outs : Outs) (losses : List Device) (next : World)
+by_notice : (trace : Trace) (world : World) (outs : Outs) (losses : List Deed) (next : World)
     → Notifies world outs losses next → AllOpen trace world.sessions → After trace outs next
 by_notice trace world outs losses next (is_told session is outs_is next_is lossless) are =
     quiet_after trace world outs next (by_telling world session outs next outs_is next_is) are
@@ -190,7 +190,7 @@ by_notice trace world outs losses next (unsure un session texts now is all' stay
 
 pub after_turn : {G A : Type 0} (stands : G → Chain → Type 0) (of_files : archive.Ghosts A) (trace : Trace)
     (s : State G)
-    (world : World) (left rest done : List Event) (outs : Outs) (losses : List Device)
+    (world : World) (left rest done : List Event) (outs : Outs) (losses : List Deed)
     (next : World) → Stands stands s world left → left ≡ done ++ rest
     → OneTurn of_files world done outs losses next → ClientsAreOpen s world trace → After trace outs next
 after_turn stands of_files trace s world left rest done outs losses next stood whole
@@ -277,7 +277,7 @@ no_more_after q (y ∷ ys) is = cc
 -- the turn was one of the node
 by_node : {A : Type 0} (of_files : archive.Ghosts A) (world : World) (met : List LineEvent) (event : Event)
     (rest ys : List Event)
-    (q : ℕ) (outs : Outs) (losses : List Device) (next : World) → map orders met ++ joins q ∷ [] ≡ event ∷
+    (q : ℕ) (outs : Outs) (losses : List Deed) (next : World) → map orders met ++ joins q ∷ [] ≡ event ∷
     rest
     → rest ≡ ys ++ joins q ∷ [] → Takes of_files world event outs losses next → Quietly world outs next
 by_node of_files world [] event rest ys q outs losses next split more t =
@@ -307,7 +307,7 @@ stays_apart world outs next p q reason client closing gone missing = elim (eithe
 ]
 
 -- another client is told
-stays_told : (world : World) (outs : Outs) (losses : List Device) (next : World) (q : ℕ)
+stays_told : (world : World) (outs : Outs) (losses : List Deed) (next : World) (q : ℕ)
     → Notifies world outs losses next → is_client q world ≡ false
     → (is_client q next ≡ false) × IsNotClosed q outs.closing
 stays_told world outs losses next q (is_told session is outs_is next_is lossless) =
@@ -321,7 +321,7 @@ stays_told world outs losses next q (unsure un session texts now is all' stays o
 -- Where a client too many waits after a turn, it waited before, and stays as it was.
 pub still_waiting : {G A : Type 0} (stands : G → Chain → Type 0) (of_files : archive.Ghosts A)
     (s turned : State G)
-    (world : World) (left rest done : List Event) (outs : Outs) (losses : List Device)
+    (world : World) (left rest done : List Event) (outs : Outs) (losses : List Deed)
     (next : World) (q : ℕ) → Stands stands s world left → left ≡ done ++ rest
     → OneTurn of_files world done outs losses next → Stands stands turned next rest → turned.surplus ≡ Some q
     → StillWaits s.surplus world outs next q
@@ -363,12 +363,12 @@ all_to p (t ∷ ts) = (refl, all_to p ts)
 abbrev pub ToOne : Outs → Type 0
 ToOne outs = (p : ℕ) × AllByRecursion (λ (m : Message). m.peer ≡ p) outs.messages
 
-lead_to_one : (leads : NodeAnswer → List Device → Side → Type 0) (world : World) (outs : Outs)
-    (losses : List Device) (next : World) → IsLed leads world outs losses next → ToOne outs
+lead_to_one : (leads : NodeAnswer → List Deed → Side → Type 0) (world : World) (outs : Outs)
+    (losses : List Deed) (next : World) → IsLed leads world outs losses next → ToOne outs
 lead_to_one leads world outs losses next l = (0, rw l.outs_is (refl, tt))
 
 event_to_one : {A : Type 0} (of_files : archive.Ghosts A) (world : World) (event : Event) (outs : Outs)
-    (losses : List Device) (next : World) → Takes of_files world event outs losses next → ToOne outs
+    (losses : List Deed) (next : World) → Takes of_files world event outs losses next → ToOne outs
 event_to_one of_files world (joins p) outs losses next t =
     elim (either (nat_lt (length world.sessions) client_limit)) [
       | inl h ↦ let e = rw h at t in (0, rw e.0 tt)
@@ -379,7 +379,7 @@ event_to_one of_files world (says p (line bytes)) outs losses next t =
     line_to_one of_files.tells world p bytes (find (is_peer p) world.sessions) outs losses next t
   where
     line_to_one : (tells : Type 0) (world : World) (p : ℕ) (bytes : List ℕ) (found : Option Session)
-        (outs : Outs) (losses : List Device) (next : World) → Replied tells world p bytes found outs losses next
+        (outs : Outs) (losses : List Deed) (next : World) → Replied tells world p bytes found outs losses next
         → ToOne outs
     line_to_one tells world p bytes None outs losses next t = (0, rw t.0 tt)
     line_to_one tells world p bytes (Some session) outs losses next
@@ -394,7 +394,7 @@ event_to_one of_files world (says p too_long) outs losses next t = elim (either 
 ]
 event_to_one of_files world (orders met) outs losses next t = lead_to_one _ (begun world) outs losses next t
 
-notice_to_one : (world : World) (outs : Outs) (losses : List Device) (next : World)
+notice_to_one : (world : World) (outs : Outs) (losses : List Deed) (next : World)
     → Notifies world outs losses next → ToOne outs
 notice_to_one world outs losses next (is_told session is outs_is next_is lossless) =
     let told = notices (status world.side.chain world.side.kept) world.before world.side.chain session.client in
@@ -404,7 +404,7 @@ notice_to_one world outs losses next (unsure un session texts now is all' stays 
     (session.peer, rw outs_is (all_to session.peer texts))
 
 pub turn_to_one : {A : Type 0} (of_files : archive.Ghosts A) (world : World) (done : List Event)
-    (outs : Outs) (losses : List Device) (next : World) → OneTurn of_files world done outs losses next → ToOne outs
+    (outs : Outs) (losses : List Deed) (next : World) → OneTurn of_files world done outs losses next → ToOne outs
 turn_to_one of_files world done outs losses next (takes event still all_told is t) =
     event_to_one of_files world event outs losses next t
 turn_to_one of_files world done outs losses next (works busy is t) = lead_to_one _ world outs losses next t

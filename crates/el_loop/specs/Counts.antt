@@ -1,8 +1,8 @@
 -- How often calls of the devices were made, and failed.
 use Rattle.std.specs.Prelude.{◌≡◌, ℕ, ◌≤◌, Option, None, Some}
 use Rattle.el_outside.specs.Counts.{RoseBy, risen}
-use Rattle.el_outside.specs.Devices as device
-use Rattle.el_outside.specs.Devices.{Device, Faults, faults}
+use Rattle.el_side.specs.Deeds as device
+use Rattle.el_side.specs.Deeds.{Device, Faults, faults}
 use Rattle.el_outside.specs.declared.archive.Archive as archive
 use Rattle.el_outside.specs.declared.link.Link as link
 use Rattle.el_loop.specs.declared.end.End.{End}
@@ -37,10 +37,11 @@ pub record Devices (D A K : Type 0) : Type 0 where
 abbrev pub devices : {D A K : Type 0} → D → A → K → Devices D A K
 devices disk files link = record { disk = disk; files = files; link = link }
 
--- How often calls of the devices have failed. `disk_faults` tells it of the ledger's device.
+-- How often calls of the devices have failed; there is no relay. `disk_faults` tells it of the ledger's
+-- device.
 abbrev pub faults_of : {D A K : Type 0} → (D → ℕ) → archive.Ghosts A → link.Ghosts K → Devices D A K → Faults
 faults_of disk_faults of_files of_link now =
-    faults (of_link.faults now.link) (of_files.faults now.files) (disk_faults now.disk)
+    faults (of_link.faults now.link) (of_files.faults now.files) (disk_faults now.disk) 0
 
 -- How often calls of the devices were made, and failed, before so many turns and after them.
 abbrev pub counts_of : {D A K : Type 0} → (D → ℕ) → archive.Ghosts A → link.Ghosts K → ℕ

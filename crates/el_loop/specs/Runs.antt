@@ -10,11 +10,12 @@ use Rattle.el_chain.specs.Chains.{Chain}
 use Rattle.el_side.specs.Side.{IsSure}
 use Rattle.el_subs.specs.Told.{AllTold, status}
 use Rattle.el_world.specs.World.{World, Session, without_node}
-use Rattle.el_outside.specs.Devices.{Device, link}
+use Rattle.el_side.specs.Deeds as deed
+use Rattle.el_side.specs.Deeds.{Deed, link}
 use Rattle.el_world.specs.Run.{Run, Halts, Stop, by_disk, by_link, by_memory, files_left}
 use Rattle.el_world.specs.Flights.{acked, Flies}
 use Rattle.el_world.specs.LastTold.{IsLastTold}
-use Rattle.el_outside.specs.Devices.{Rose}
+use Rattle.el_side.specs.Deeds.{Rose}
 use Rattle.el_loop.specs.Counts.{Counts}
 use Rattle.el_loop.specs.declared.end.End.{End}
 use Rattle.el_loop.specs.declared.end.End.TheVariants as end
@@ -56,12 +57,12 @@ abbrev pub no_traffic : Trace
 no_traffic = record { arrivals = []; messages = []; closings = [] }
 
 -- the last call of `next` failed
-abbrev pub next_failed : List Device
-next_failed = link ∷ []
+abbrev pub next_failed : List Deed
+next_failed = deed.lost link ∷ []
 
 -- Each call of `next` brought an arrival, or failed. Each failed call of a device is one of those, or one
 -- that something was answered or closed for.
-pub record IsCounted (c : Counts) (t : Trace) (losses failed : List Device) : Type 0 where
+pub record IsCounted (c : Counts) (t : Trace) (losses failed : List Deed) : Type 0 where
   pub calls : RoseBy c.calls_before c.calls_after (length t.arrivals + length failed)
   pub turns : length t.arrivals + length failed ≤ c.turns
   pub rose : Rose c.faults_before c.faults_after (losses ++ failed)
@@ -83,9 +84,9 @@ StatusesAreTold world = AllByRecursion
 -- other, which is in flight; acknowledged is the one that the node was told last. What is said of chains is
 -- said where the side of the first world is sure.
 pub record IsRun {A : Type 0} (of_files : archive.Ghosts A) (first : World) (node : Bool)
-    (leaves : Chain → Chain → Type 0) (files : ℕ → List ℕ) (c : Counts) (t : Trace) (failed : List Device)
+    (leaves : Chain → Chain → Type 0) (files : ℕ → List ℕ) (c : Counts) (t : Trace) (failed : List Deed)
     : Type 0 where
-  pub losses : List Device
+  pub losses : List Deed
   pub world : World
   pub run : Run of_files first (taken node t.arrivals) t.messages t.closings losses world
   pub statuses : IsSure first.side → StatusesAreTold world
@@ -99,7 +100,7 @@ pub record IsRun {A : Type 0} (of_files : archive.Ghosts A) (first : World) (nod
 pub record IsHalted {A : Type 0} (of_files : archive.Ghosts A) (first : World) (node : Bool)
     (leaves : Chain → Chain → Type 0) (files : ℕ → List ℕ) (c : Counts) (t : Trace) (stop : Stop)
     : Type 0 where
-  pub losses : List Device
+  pub losses : List Deed
   pub halts : Halts of_files first stop (taken node t.arrivals) t.messages t.closings losses
   pub grown : of_files.tells → AllGrow (files_left halts.stops) files
   pub counted : IsCounted c t losses []

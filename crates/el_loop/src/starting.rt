@@ -5,6 +5,7 @@ ghost use Rattle.el_outside.specs.Trace.{Trace};
 ghost use Rattle.el_chain.specs.Chains.{Chain};
 ghost use Rattle.el_model.specs.Keeping.{LeavesEither};
 ghost use Rattle.el_model.specs.LedgerCalls.{KeepsBeside};
+ghost use Rattle.el_side.specs.Caching.{CachesStand};
 ghost use Rattle.el_world.specs.World.{initial_world};
 ghost use Rattle.el_loop.specs.Counts.{counts_of, devices, IsCaused, failed_device};
 ghost use Rattle.el_loop.specs.Runs.{WentBy, RunEnds};
@@ -17,17 +18,19 @@ use el_headers::HeaderTree;
 use el_model::Ledger;
 use el_outside::{Archive, Link, Pace};
 use el_pool::Pool;
-use el_side::Holdings;
+use el_side::{Caches, Holdings};
 use std::alloc::Global;
 use std::thread::Threads;
 
 /// Serves the arrivals that calls of `next` bring, as the options say, from a ledger and the headers that
-/// were found. Nothing unconfirmed is kept at the start. The ledger comes back as it stands.
+/// were found, with what was computed once of its chain. Nothing unconfirmed is kept at the start. The ledger
+/// comes back as it stands.
 pub fn serve_from<W: Threads + Sync, G: Ledger, A: Archive, K: Link>(
     rt: &W,
     alloc: Global,
     ledger: G,
     tree: HeaderTree,
+    caches: Caches,
     archive: &mut A,
     link: &mut K,
     pace: &(dyn Pace + Sync),
@@ -36,8 +39,8 @@ pub fn serve_from<W: Threads + Sync, G: Ledger, A: Archive, K: Link>(
     requires live { G.is_live ledger }
     // What was sent and closed is a run from the chain that the ledger stands for, and so it ends. It is a
     // run from a side that is unsure whatever the ledger stands for.
-    ensures ends { (sure : Bool) (chain : Chain) → (sure ≡ true → G.stands ledger chain) → (traffic : Trace)
-        × WentBy ⟦<K as Link>⟧ link.old link.new traffic
+    ensures ends { (sure : Bool) (chain : Chain) → (sure ≡ true → G.stands ledger chain)
+        → (sure ≡ true → CachesStand caches chain chain) → (traffic : Trace) × WentBy ⟦<K as Link>⟧ link.old link.new traffic
         × RunEnds ⟦<A as Archive>⟧ (initial_world sure chain options.magic options.limits tree
         (A.bytes archive.old)) options.node
         (LeavesEither G.tells_crash G.means G.moment G.left_since result.1)
@@ -54,7 +57,7 @@ pub fn serve_from<W: Threads + Sync, G: Ledger, A: Archive, K: Link>(
     let magic = options.magic;
     let pool = Pool::new(alloc, options.limits);
     let holdings = Holdings { tree, magic, pool };
-    let mut server = Server::new(alloc, ledger, holdings);
+    let mut server = Server::new(alloc, ledger, holdings, caches);
     let end = run(rt, &mut server, archive, link, pace, options);
     (end, server.into_ledger())
 }

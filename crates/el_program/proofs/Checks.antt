@@ -2,10 +2,12 @@
 use Rattle.std.proofs.Common.{◌≡◌, ◌≢◌, ◌⊎◌, inl, inr, ℕ, ◌≤◌, List, [], ◌∷◌, length, refl, sym, ◌∙◌, subst, arith, Some, Err}
 use Rattle.el_outside.specs.declared.link.Link as links
 use Rattle.el_outside.specs.Counts.{RoseBy, CountsOnly}
-use Rattle.el_outside.specs.Devices.{Device, link, archive, disk, faults, failures, Rose}
+use Rattle.el_side.specs.Deeds as deed
+use Rattle.el_side.specs.Deeds.{Device, Deed, link, archive, disk, relay, faults, failures, Rose}
 use Rattle.el_outside.specs.Disk.{Image}
 use Rattle.el_outside.specs.Trace.{Trace, GoesOn}
-use Rattle.el_outside.proofs.Devices.{each_more, rose_still}
+use Rattle.el_side.proofs.Deeds.{each_more, rose_still}
+use Rattle.el_program.proofs.Rises.{no_relay}
 use Rattle.el_outside.proofs.Traces.{goes_none}
 use Rattle.el_outside.specs.Images.{LeftSince}
 use Rattle.el_mem_disk.specs.Disks.{DiskState, state_of, left_on, moment_of, kept_in}
@@ -37,12 +39,13 @@ once_no_check {words} {blocks} {network} {count} is check = let one = is.words_a
 pub one_check : {words : List (List ℕ)} (a b : ℕ) → IsCheckOf words a → IsCheckOf words b → a ≡ b
 one_check {words} a b is other = let same = one_command words (command.CheckChain a) (command.CheckChain b) is other in cc
 
--- the counts of the three devices rose
-pub all_rose : (a a' b b' d d' : ℕ) (losses : List Device) → RoseBy a a' (failures link losses)
-    → RoseBy b b' (failures archive losses) → RoseBy d d' (failures disk losses) → Rose (faults a b d) (faults a' b' d') losses
-all_rose a a' b b' d d' losses of_link of_files of_disk link = of_link
-all_rose a a' b b' d d' losses of_link of_files of_disk archive = of_files
-all_rose a a' b b' d d' losses of_link of_files of_disk disk = of_disk
+-- the counts of the devices rose, but for the relay's
+pub all_rose : (a a' b b' d d' : ℕ) (losses : List Deed) → RoseBy a a' (failures link losses)
+    → RoseBy b b' (failures archive losses) → RoseBy d d' (failures disk losses) → failures relay losses ≡ 0 → Rose (faults a b d 0) (faults a' b' d' 0) losses
+all_rose a a' b b' d d' losses of_link of_files of_disk of_relay link = of_link
+all_rose a a' b b' d d' losses of_link of_files of_disk of_relay archive = of_files
+all_rose a a' b b' d d' losses of_link of_files of_disk of_relay disk = of_disk
+all_rose a a' b b' d d' losses of_link of_files of_disk of_relay relay = rw of_relay (rose_still 0 0 refl)
 
 -- after a summary was there to be sent
 pub summary_sent : {K : Type 0} (of_link : links.Ghosts K) (old new : K) (is_line : List ℕ → Type 0) (text : List ℕ) (turns of_files low high : ℕ) (s : Status)
@@ -53,7 +56,7 @@ pub summary_sent : {K : Type 0} (of_link : links.Ghosts K) (old new : K) (is_lin
     → (s ≢ status.LinkFailed → of_link.faults new ≡ of_link.faults old)
     → of_link.calls new ≡ of_link.calls old → high ≡ low → is_line text
     → (t : Trace) × WentBy of_link old new t
-    × SummaryEnds is_line (counts turns (of_link.calls old) (of_link.calls new) (faults (of_link.faults old) of_files low) (faults (of_link.faults new) of_files high)) t s
+    × SummaryEnds is_line (counts turns (of_link.calls old) (of_link.calls new) (faults (of_link.faults old) of_files low 0) (faults (of_link.faults new) of_files high 0)) t s
 summary_sent of_link old new is_line text turns of_files low high s is sent not_sent counted uncounted calls same line = elim is [
   | inl e ↦ (
     record { arrivals = []; messages = record { peer = 1; text = text } ∷ []; closings = [] },
@@ -65,7 +68,7 @@ summary_sent of_link old new is_line text turns of_files low high s is sent not_
         traffic = refl;
         calls = calls;
         rose = all_rose (of_link.faults old) (of_link.faults new) of_files of_files low high [] (rose_still _ _ (uncounted (λ f. let g = sym e in let h = f in cc)))
-            (rose_still of_files of_files refl) (rose_still low high same);
+            (rose_still of_files of_files refl) (rose_still low high same) refl;
       },
     ),
   )
@@ -75,8 +78,8 @@ summary_sent of_link old new is_line text turns of_files low high s is sent not_
     rw e (record {
       traffic = refl;
       calls = calls;
-      rose = all_rose (of_link.faults old) (of_link.faults new) of_files of_files low high (link ∷ []) (counted e)
-          (rose_still of_files of_files refl) (rose_still low high same);
+      rose = all_rose (of_link.faults old) (of_link.faults new) of_files of_files low high (deed.lost link ∷ []) (counted e)
+          (rose_still of_files of_files refl) (rose_still low high same) refl;
     }),
   )
   | inr (inr e) ↦ (
@@ -86,7 +89,7 @@ summary_sent of_link old new is_line text turns of_files low high s is sent not_
       traffic = refl;
       calls = calls;
       rose = all_rose (of_link.faults old) (of_link.faults new) of_files of_files low high [] (rose_still _ _ (uncounted (λ f. let g = e in cc)))
-          (rose_still of_files of_files refl) (rose_still low high same);
+          (rose_still of_files of_files refl) (rose_still low high same) refl;
     }),
   )
 ]
@@ -96,7 +99,7 @@ pub nothing_sent : {K : Type 0} (of_link : links.Ghosts K) (k : K) (is_line : Li
     → (s ≡ status.DiskFailed) ⊎ (s ≡ status.OutOfMemory)
     → (s ≡ status.DiskFailed → RoseBy low high 1) → (s ≢ status.DiskFailed → high ≡ low)
     → (t : Trace) × WentBy of_link k k t
-    × SummaryEnds is_line (counts turns (of_link.calls k) (of_link.calls k) (faults (of_link.faults k) of_files low) (faults (of_link.faults k) of_files high)) t s
+    × SummaryEnds is_line (counts turns (of_link.calls k) (of_link.calls k) (faults (of_link.faults k) of_files low 0) (faults (of_link.faults k) of_files high 0)) t s
 nothing_sent of_link k is_line turns of_files low high s is counted uncounted = elim is [
   | inl e ↦ (
     no_traffic,
@@ -104,8 +107,8 @@ nothing_sent of_link k is_line turns of_files low high s is counted uncounted = 
     rw e (record {
       traffic = refl;
       calls = refl;
-      rose = all_rose (of_link.faults k) (of_link.faults k) of_files of_files low high (disk ∷ []) (rose_still _ _ refl)
-          (rose_still of_files of_files refl) (counted e);
+      rose = all_rose (of_link.faults k) (of_link.faults k) of_files of_files low high (deed.lost disk ∷ []) (rose_still _ _ refl)
+          (rose_still of_files of_files refl) (counted e) refl;
     }),
   )
   | inr e ↦ (
@@ -115,7 +118,7 @@ nothing_sent of_link k is_line turns of_files low high s is counted uncounted = 
       traffic = refl;
       calls = refl;
       rose = all_rose (of_link.faults k) (of_link.faults k) of_files of_files low high [] (rose_still _ _ refl)
-          (rose_still of_files of_files refl) (rose_still low high (uncounted (λ f. let g = e in cc)));
+          (rose_still of_files of_files refl) (rose_still low high (uncounted (λ f. let g = e in cc))) refl;
     }),
   )
 ]
@@ -124,9 +127,9 @@ nothing_sent of_link k is_line turns of_files low high s is counted uncounted = 
 pub check_caused : (turns calls calls' a a' b d d' : ℕ) (s : Status) → calls' ≡ calls → a ≤ a' → d ≤ d'
     → s ≢ status.TurnsSpent → failed_device s ≢ Some archive
     → (failed_device s ≡ Some link → HasRisen a a') → (failed_device s ≡ Some disk → HasRisen d d')
-    → ShowsCause (counts turns calls calls' (faults a b d) (faults a' b d')) s
+    → ShowsCause (counts turns calls calls' (faults a b d 0) (faults a' b d' 0)) s
 check_caused turns calls calls' a a' b d d' s same more_link more_disk no_turns no_files by_link by_disk = record {
-  more = each_more (faults a b d) (faults a' b d') more_link (omega arith) more_disk;
+  more = each_more (faults a b d 0) (faults a' b d' 0) more_link (omega arith) more_disk (omega arith);
   rose = rose;
   calls = 0;
   called = omega arith;
@@ -134,10 +137,11 @@ check_caused turns calls calls' a a' b d d' s same more_link more_disk no_turns 
   spent = λ e. absurd (no_turns e);
 }
   where
-    rose : (device : Device) → failed_device s ≡ Some device → HasRisen (faults a b d device) (faults a' b d' device)
+    rose : (device : Device) → failed_device s ≡ Some device → HasRisen (faults a b d 0 device) (faults a' b d' 0 device)
     rose link e = by_link e
     rose archive e = absurd (no_files e)
     rose disk e = by_disk e
+    rose relay e = absurd (no_relay s e)
 
 pub risen_by : (a b : ℕ) → RoseBy a b 1 → (a ≤ b) × HasRisen a b
 risen_by a b r = (omega arith, omega arith)
@@ -146,7 +150,7 @@ risen_by a b r = (omega arith, omega arith)
 pub sent_caused : (turns calls calls' a a' b d d' : ℕ) (s : Status)
     → (s ≡ status.Ended) ⊎ ((s ≡ status.LinkFailed) ⊎ (s ≡ status.OutOfMemory))
     → (s ≡ status.LinkFailed → RoseBy a a' 1) → (s ≢ status.LinkFailed → a' ≡ a) → calls' ≡ calls → d' ≡ d
-    → ShowsCause (counts turns calls calls' (faults a b d) (faults a' b d')) s
+    → ShowsCause (counts turns calls calls' (faults a b d 0) (faults a' b d' 0)) s
 sent_caused turns calls calls' a a' b d d' s is counted uncounted same still = elim is [
   | inl e ↦
       let x = uncounted (λ f. let g = sym e in let h = f in cc) in

@@ -1,5 +1,5 @@
 -- Lives follow each other.
-use Rattle.std.proofs.Common.{Bool, true, true≢false, ◌≡◌, ◌⊎◌, inl, inr, ℕ, List, [], ◌∷◌, length, refl, arith}
+use Rattle.std.proofs.Common.{Bool, true, true≢false, ◌≡◌, ◌⊎◌, inl, inr, ℕ, List, [], ◌∷◌, length, take, refl, arith}
 use Rattle.std.specs.List.{AllByRecursion}
 use Rattle.el_outside.specs.Trace.{Trace}
 use Rattle.el_outside.specs.declared.archive.Archive as archive
@@ -9,27 +9,26 @@ use Rattle.el_outside.specs.Disk.{Image}
 use Rattle.el_chain.specs.Chains.{Chain}
 use Rattle.el_mempool.specs.declared.entry.PoolLimits.{PoolLimits}
 use Rattle.el_world.specs.World.{World}
-use Rattle.el_outside.specs.Devices.{Device}
+use Rattle.el_side.specs.Deeds.{Deed}
 use Rattle.el_world.specs.Run.{Stop}
 use Rattle.el_world.specs.Flights.{acked}
 use Rattle.el_row_formats.specs.Tables.{Tables}
 use Rattle.el_row_formats.specs.declared.table.Table.{Table}
 use Rattle.el_row_formats.specs.declared.table.Table.TheVariants as table
 use Rattle.el_tables.specs.ChainLists.{lists, listed_blocks}
-use Rattle.el_tables.specs.Tables.{tables_of}
-use Rattle.el_schema.specs.Rows.{bytes_of}
-use Rattle.el_row_formats.specs.declared.limits.TheConstants.{BUCKET_COUNT}
-use Rattle.el_schema.specs.Standing.{heads_in}
-use Rattle.el_schema.proofs.StandingLemmas.{stands}
-use Rattle.el_index.specs.Means.{AreRowsOf}
+use Rattle.el_tables.specs.Tables.{tables_of, in_both}
+use Rattle.el_tables.proofs.Tables.{tables_stand}
 use Rattle.el_rows.specs.Changes.{count_at}
 use Rattle.el_rows.specs.Reads.{Same}
 use Rattle.el_pages.specs.declared.layout.TheConstants.{FORMAT_1}
 use Rattle.el_pages.specs.Layouts.{rows_in}
 use Rattle.el_pages.specs.Indexes.{tables_in}
+use Rattle.el_redone.specs.declared.steps.TheConstants.{ROOT}
+use Rattle.el_migrate.specs.OldRows.{StandForOld, old_bytes_of}
+use Rattle.el_migrate.specs.ImageChains.{ImageStands}
 use Rattle.el_words.specs.Commands.{IsServe}
 use Rattle.el_program.specs.AnyCall.{IsCall}
-use Rattle.el_program.specs.IndexDisks.{ImageMeans, LeavesOneOf, IsIndexDisk}
+use Rattle.el_program.specs.IndexDisks.{LeavesOneOf, IsIndexDisk}
 use Rattle.el_program.proofs.Checks.{serve_no_check}
 use Rattle.el_program.specs.Calls.{Call, CallEnds}
 use Rattle.el_program.specs.Ends.{serve, IndexEnds, UnopenedEnds, ServeEnds, IsServed}
@@ -60,7 +59,7 @@ module _ (P : Chain → Chain → Type 0) where
   both a b = (refl, refl)
 
   run_pinned : {A : Type 0} (of_files : archive.Ghosts A) (first : World) (node : Bool)
-      (files : ℕ → List ℕ) (c : Counts) (t : Trace) (failed : List Device)
+      (files : ℕ → List ℕ) (c : Counts) (t : Trace) (failed : List Deed)
       → first.side.sure ≡ true → IsRun of_files first node P files c t failed
       → Pinned P (λ Q. IsRun of_files first node Q files c t failed)
   run_pinned of_files first node files c t failed sure r = record {
@@ -292,22 +291,26 @@ lived_none of_disk of_files of_link d was flight words turns (a ∷ more) links 
 abbrev pub no_rows : Tables
 no_rows t = []
 
-no_rows_stand : AreRowsOf no_rows []
-no_rows_stand = stands BUCKET_COUNT no_rows [] (omega arith) (record { each = tt }) (record {
-  each = each;
-  fit = record {
-    blocks = tt;
-    txs = tt;
-    tx_heads = tt;
-    outs = tt;
-    ins = tt;
-    scripts = tt;
-    script_heads = tt;
-    entries = tt;
+no_rows_stand : StandForOld no_rows []
+no_rows_stand = record {
+  tables = tables_of (in_both 0) (listed_blocks []) (lists []);
+  encode = record {
+    each = each;
+    fit = record {
+      blocks = tt;
+      txs = tt;
+      tx_heads = tt;
+      outs = tt;
+      ins = tt;
+      scripts = tt;
+      script_heads = tt;
+      entries = tt;
+    };
   };
-})
+  stand = tables_stand (in_both 0) [] (record { each = tt });
+}
   where
-    each : (u : Table) → no_rows u ≡ bytes_of (tables_of (heads_in BUCKET_COUNT []) (listed_blocks []) (lists [])) u
+    each : (u : Table) → no_rows u ≡ old_bytes_of (tables_of (in_both 0) (listed_blocks []) (lists [])) u
     each table.Blocks = refl
     each table.Txs = refl
     each table.TxHeads = refl
@@ -338,11 +341,15 @@ none_in image table.Scripts = refl
 none_in image table.ScriptHeads = refl
 none_in image table.Entries = refl
 
--- an image whose files are empty stands for no blocks
-pub empty_means : (magic : List ℕ) (image : Image) → ((f : ℕ) → image f ≡ []) → ImageMeans magic image []
-empty_means magic image empty = (
-  no_rows,
-  record {
+no_root : (bytes : List ℕ) → bytes ≡ [] → take 1 bytes ≡ 2 ∷ [] → ⊥
+no_root bytes empty root = let no_byte : take 1 [] ≡ 2 ∷ [] = rw empty at root in absurd cc
+
+-- an image whose files are empty stands for no blocks, in format 1
+pub empty_stands : (magic : List ℕ) (image : Image) → ((f : ℕ) → image f ≡ []) → ImageStands magic image []
+empty_stands magic image empty = inr (record {
+  unrooted = no_root (image ROOT) (empty ROOT);
+  tables = no_rows;
+  shows = record {
     files = image;
     stands = record {
       writes = [];
@@ -353,6 +360,6 @@ empty_means magic image empty = (
     counts = [];
     has = inr (record { empty = empty 0; none = none_counted });
     same = none_in image;
-  },
-  no_rows_stand,
-)
+  };
+  stand = no_rows_stand;
+})

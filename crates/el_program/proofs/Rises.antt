@@ -2,9 +2,9 @@
 use Rattle.std.proofs.Common.{◌≡◌, ◌≢◌, ◌⊎◌, inl, inr, ℕ, ◌≤◌, List, refl, arith, Err, Some, sym, ◌∙◌}
 use Rattle.el_outside.specs.Counts.{RoseBy, OnlyReads, CountsOnly}
 use Rattle.el_loop.specs.Counts as loop
-use Rattle.el_outside.specs.Devices.{Device, link, archive, disk, Faults, faults}
+use Rattle.el_side.specs.Deeds.{Device, link, archive, disk, relay, Faults, faults}
 use Rattle.el_loop.specs.Counts.{Counts, counts, HasRisen, IsCaused}
-use Rattle.el_outside.proofs.Devices.{each_more}
+use Rattle.el_side.proofs.Deeds.{each_more}
 use Rattle.el_loop.specs.declared.end.End.{End}
 use Rattle.el_loop.specs.declared.end.End.TheVariants as end
 use Rattle.el_program.specs.Ends.{IsUnserved, IsOpenedEnd}
@@ -17,18 +17,31 @@ use Rattle.el_program.specs.declared.status.Status.{Status}
 use Rattle.el_program.specs.declared.status.Status.TheVariants as status
 use Rattle.el_program.specs.within.Unread.{start_status, unread_status}
 
+-- no status is of the relay's failure
+pub no_relay : (s : Status) → failed_device s ≡ Some relay → ⊥
+no_relay status.ArchiveFailed e = cc
+no_relay status.DiskFailed e = cc
+no_relay status.LinkFailed e = cc
+no_relay status.Ended e = cc
+no_relay status.Usage e = cc
+no_relay status.BadIndex e = cc
+no_relay status.OutOfMemory e = cc
+no_relay status.TurnsSpent e = cc
+no_relay status.OtherChain e = cc
+no_relay status.BadChain e = cc
+
 -- No call of `next` was made, and no call failed but one that is told, of the block files or of the index's
 -- device.
 unserved_caused : (turns calls of_link low high of_disk now : ℕ) (s : Status) → low ≤ high → of_disk ≤ now
     → failed_device s ≢ Some link → s ≢ status.TurnsSpent
     → (failed_device s ≡ Some archive → HasRisen low high)
     → (failed_device s ≡ Some disk → HasRisen of_disk now)
-    → ShowsCause (counts turns calls calls (faults of_link low of_disk) (faults of_link high now)) s
+    → ShowsCause (counts turns calls calls (faults of_link low of_disk 0) (faults of_link high now 0)) s
 unserved_caused turns calls of_link low high of_disk now s files_more disk_more no_link no_turns by_files
     by_disk =
     record {
-      more = each_more (faults of_link low of_disk) (faults of_link high now) (omega arith) files_more
-          disk_more;
+      more = each_more (faults of_link low of_disk 0) (faults of_link high now 0) (omega arith) files_more
+          disk_more (omega arith);
       rose = rose;
       calls = 0;
       called = omega arith;
@@ -37,10 +50,11 @@ unserved_caused turns calls of_link low high of_disk now s files_more disk_more 
     }
   where
     rose : (device : Device) → failed_device s ≡ Some device
-        → HasRisen (faults of_link low of_disk device) (faults of_link high now device)
+        → HasRisen (faults of_link low of_disk 0 device) (faults of_link high now 0 device)
     rose link e = absurd (no_link e)
     rose archive e = by_files e
     rose disk e = by_disk e
+    rose relay e = absurd (no_relay s e)
 
 one_risen : (a b : ℕ) → RoseBy a b 1 → HasRisen a b
 one_risen a b r = omega arith
@@ -67,7 +81,7 @@ pub unopened_caused : (turns calls of_link of_archive of_disk now : ℕ) (s : St
     → (s ≡ status.BadIndex) ⊎ ((s ≡ status.DiskFailed) ⊎ (s ≡ status.OutOfMemory))
     → (s ≡ status.DiskFailed → RoseBy of_disk now 1) → (s ≢ status.DiskFailed → now ≡ of_disk)
     → ShowsCause
-    (counts turns calls calls (faults of_link of_archive of_disk) (faults of_link of_archive now)) s
+    (counts turns calls calls (faults of_link of_archive of_disk 0) (faults of_link of_archive now 0)) s
 unopened_caused turns calls of_link of_archive of_disk now s is counted uncounted = elim is [
   | inl bad ↦ rw bad (unserved_caused turns calls of_link of_archive of_archive of_disk now _ (omega arith)
       (still of_disk now (uncounted (λ e. cc))) (λ e. cc) (λ e. cc) (λ e. absurd cc) (λ e. absurd cc))
@@ -84,7 +98,7 @@ pub start_caused : {S T : Type 0} (tells : Type 0) (files files_now : ℕ → Li
     (turns calls of_link low high of_disk now : ℕ) (e : StartFault)
     → OnlyReads {T = S} tells files files_now low high start.ArchiveFailed (Err e)
     → CountsOnly {T = T} of_disk now start.DiskFailed (Err e)
-    → ShowsCause (counts turns calls calls (faults of_link low of_disk) (faults of_link high now))
+    → ShowsCause (counts turns calls calls (faults of_link low of_disk 0) (faults of_link high now 0))
     (start_status e)
 start_caused tells files files_now turns calls of_link low high of_disk now start.DiskFailed reads counts =
     let d = counts.counted refl in
@@ -111,7 +125,7 @@ start_caused tells files files_now turns calls of_link low high of_disk now star
 pub unread_caused : {T : Type 0} (tells : Type 0) (files files_now : ℕ → List ℕ)
     (turns calls of_link low high of_disk : ℕ) (e : FileFault)
     → OnlyReads {T = T} tells files files_now low high file.Failed (Err e)
-    → ShowsCause (counts turns calls calls (faults of_link low of_disk) (faults of_link high of_disk))
+    → ShowsCause (counts turns calls calls (faults of_link low of_disk 0) (faults of_link high of_disk 0))
     (unread_status e)
 unread_caused tells files files_now turns calls of_link low high of_disk file.Failed reads =
     let a = reads.counted refl in
@@ -129,13 +143,13 @@ unread_caused tells files files_now turns calls of_link low high of_disk file.Ba
 
 -- a count that stays 0 counts no failure, and another count may stay
 pub caused_still : (turns calls calls_now of_link link_now of_archive archive_now of_disk : ℕ) (s : Status)
-    → ShowsCause (counts turns calls calls_now (faults of_link of_archive 0) (faults link_now archive_now 0))
+    → ShowsCause (counts turns calls calls_now (faults of_link of_archive 0 0) (faults link_now archive_now 0 0))
     s
-    → ShowsCause (counts turns calls calls_now (faults of_link of_archive of_disk)
-    (faults link_now archive_now of_disk)) s
+    → ShowsCause (counts turns calls calls_now (faults of_link of_archive of_disk 0)
+    (faults link_now archive_now of_disk 0)) s
 caused_still turns calls calls_now of_link link_now of_archive archive_now of_disk s k = record {
-  more = each_more (faults of_link of_archive of_disk) (faults link_now archive_now of_disk) (k.more link)
-      (k.more archive) (omega arith);
+  more = each_more (faults of_link of_archive of_disk 0) (faults link_now archive_now of_disk 0) (k.more link)
+      (k.more archive) (omega arith) (omega arith);
   rose = rose;
   calls = k.calls;
   called = k.called;
@@ -144,10 +158,11 @@ caused_still turns calls calls_now of_link link_now of_archive archive_now of_di
 }
   where
     rose : (device : Device) → failed_device s ≡ Some device
-        → HasRisen (faults of_link of_archive of_disk device) (faults link_now archive_now of_disk device)
+        → HasRisen (faults of_link of_archive of_disk 0 device) (faults link_now archive_now of_disk 0 device)
     rose link e = k.rose link e
     rose archive e = k.rose archive e
     rose disk e = let r = k.rose disk e in absurd (omega arith)
+    rose relay e = k.rose relay e
 
 -- the program ends for the device for which its run ends, and as all turns are made
 same_failed : (e : End) → failed_device (status_of_end e) ≡ loop.failed_device e

@@ -1,19 +1,20 @@
 -- How a call of `serve` ends.
-use Rattle.std.proofs.Common.{◌≡◌, ◌≢◌, inl, inr, ℕ, List, [], ◌∷◌, ◌++◌, ◌∙◌, refl, sym, ap, Bool, true, false, arith}
+use Rattle.std.proofs.Common.{◌≡◌, ◌≢◌, ◌≤◌, inl, inr, ℕ, List, [], ◌∷◌, ◌++◌, ◌∙◌, refl, sym, subst, ap, Option, None, Some, Bool, true, false, arith}
 use Rattle.std.specs.Prelude.{◌⊎◌, Err}
 use Rattle.el_outside.specs.declared.archive.Archive as block_files
 use Rattle.el_outside.specs.Trace.{Trace}
 use Rattle.el_outside.specs.Counts.{RoseBy, OnlyReads, CountsOnly}
 use Rattle.el_outside.proofs.Traces.{rose_none}
-use Rattle.el_outside.proofs.Devices.{rose_still}
+use Rattle.el_side.proofs.Deeds.{rose_still}
 use Rattle.el_chain.specs.Chains.{Chain}
 use Rattle.el_world.specs.World.{World}
-use Rattle.el_outside.specs.Devices.{Device, archive, disk, failures, link}
+use Rattle.el_side.specs.Deeds as deed
+use Rattle.el_side.specs.Deeds.{Deed, archive, disk, failures, link, relay}
 use Rattle.el_world.specs.Run.{Stop}
-use Rattle.el_words.specs.Words.{IsOnceOf, IsServeOf, network_magic}
+use Rattle.el_words.specs.Words.{IsOnceOf, IsServeOf, IsHeadBits, network_magic}
 use Rattle.el_words.specs.Commands.{IsServe, IsOnce}
 use Rattle.el_program.specs.Opened.{IndexChain}
-use Rattle.el_outside.specs.Devices.{Faults, Rose, faults}
+use Rattle.el_side.specs.Deeds.{Faults, Rose, faults}
 use Rattle.el_loop.specs.Counts.{Counts, counts}
 use Rattle.el_loop.specs.Runs.{IsCounted, no_traffic, RunEnds, IsRun, IsHalted}
 use Rattle.el_program.specs.Ends.{Ends, usage, serve, once, IndexEnds, IsSilent, IsOtherChain, LeavesChain, ServeEnds, UnopenedEnds, OnceEnds, IsServed, IsServedOnce, IsBadFile}
@@ -66,6 +67,18 @@ pub network_in : {words : List (List ℕ)} {magic : List ℕ} {settings : ServeS
     → magic ≡ network_magic settings.network
 network_in is found = one_network is found.1 ∙ sym (magic_of found.0 found.2)
 
+-- the bits that the words say are from 16 to 24
+bits_said : (text : Option (List ℕ)) (n : ℕ) → IsHeadBits text n → (16 ≤ n) × (n ≤ 24)
+bits_said None n is = (omega (arith, is), omega (arith, is))
+bits_said (Some text) n is = let below = is.0.number.below in (is.1, omega (arith, below))
+
+pub bits_in : {words : List (List ℕ)} {settings : ServeSettings}
+    → (said : ServeWords) × IsServeOf words said × (said.settings ≡ settings)
+    → (16 ≤ settings.head_bits) × (settings.head_bits ≤ 24)
+bits_in {words} {settings} found =
+    subst (λ (s : ServeSettings). (16 ≤ s.head_bits) × (s.head_bits ≤ 24)) found.2
+    (bits_said _ found.0.settings.head_bits found.1.head_bits_are)
+
 pub same_limits : {words : List (List ℕ)} {a b : List ℕ} (x : IsServe words a) (y : IsServe words b)
     → x.said.settings.limits ≡ y.said.settings.limits
 same_limits x y = ap (λ (s : ServeWords). s.settings.limits) (same_said x.said y.said x.is_serve y.is_serve)
@@ -113,19 +126,19 @@ pub served_with : {A : Type 0} {of_files : block_files.Ghosts A} {words : List (
 served_with found e = serve _ (is_serve found.1 refl) (rw (sym found.2) at e)
 
 -- a run told in other words: what a crash leaves, where the chain is sure, and how often calls failed
-module _ (c : Counts) (of_before of_after : Faults) (rises : (losses : List Device)
+module _ (c : Counts) (of_before of_after : Faults) (rises : (losses : List Deed)
     → Rose c.faults_before c.faults_after losses → Rose of_before of_after losses)
     (P Q : Chain → Chain → Type 0) (S : Type 0) (gives : S → (a b : Chain) → P a b → Q a b) where
   abbrev pub told : Counts
   told = record c { faults_before = of_before; faults_after = of_after }
 
-  counted_told : (t : Trace) (losses failed : List Device) → IsCounted c t losses failed
+  counted_told : (t : Trace) (losses failed : List Deed) → IsCounted c t losses failed
       → IsCounted told t losses failed
   counted_told t losses failed k =
       record { calls = k.calls; turns = k.turns; rose = rises (losses ++ failed) k.rose }
 
   run_told : {A : Type 0} (of_files : block_files.Ghosts A) (first : World) (node : Bool)
-      (files : ℕ → List ℕ) (t : Trace) (failed : List Device) → (first.side.sure ≡ true → S)
+      (files : ℕ → List ℕ) (t : Trace) (failed : List Deed) → (first.side.sure ≡ true → S)
       → IsRun of_files first node P files c t failed
       → IsRun of_files first node Q files told t failed
   run_told of_files first node files t failed is r = record {
@@ -170,7 +183,7 @@ module _ (c : Counts) (of_before of_after : Faults) (rises : (losses : List Devi
   ends_told of_files first node files t end.TurnsSpent is r =
       (run_told of_files first node files t _ is r.0, r.1, r.2)
 
-  silent_told : (t : Trace) (losses : List Device) → IsSilent c t losses → IsSilent told t losses
+  silent_told : (t : Trace) (losses : List Deed) → IsSilent c t losses → IsSilent told t losses
   silent_told t losses k =
       record { traffic = k.traffic; calls = k.calls; rose = rises losses k.rose }
 
@@ -219,13 +232,14 @@ module _ (c : Counts) (of_before of_after : Faults) (rises : (losses : List Devi
 stays_still : (d n : ℕ) → RoseBy 0 0 n → RoseBy d d n
 stays_still d n r = omega arith
 
-pub with_disk : (of_link of_archive link_now archive_now of_disk : ℕ) (losses : List Device)
-    → Rose (faults of_link of_archive 0) (faults link_now archive_now 0) losses
-    → Rose (faults of_link of_archive of_disk) (faults link_now archive_now of_disk) losses
+pub with_disk : (of_link of_archive link_now archive_now of_disk : ℕ) (losses : List Deed)
+    → Rose (faults of_link of_archive 0 0) (faults link_now archive_now 0 0) losses
+    → Rose (faults of_link of_archive of_disk 0) (faults link_now archive_now of_disk 0) losses
 with_disk of_link of_archive link_now archive_now of_disk losses rose link = rose link
 with_disk of_link of_archive link_now archive_now of_disk losses rose archive = rose archive
 with_disk of_link of_archive link_now archive_now of_disk losses rose disk =
     stays_still of_disk (failures disk losses) (rose disk)
+with_disk of_link of_archive link_now archive_now of_disk losses rose relay = rose relay
 
 -- a node and clients were served
 pub served_ends : {A : Type 0} (of_files : block_files.Ghosts A)
@@ -241,20 +255,21 @@ served_ends of_files magic limits index leaves c before after t end.OutOfMemory 
 served_ends of_files magic limits index leaves c before after t end.TurnsSpent served = served
 
 -- nothing went over the link, and the other counts rose by these losses
-silent : (turns calls of_link low high of_disk now : ℕ) (losses : List Device) → failures link losses ≡ 0
+silent : (turns calls of_link low high of_disk now : ℕ) (losses : List Deed) → failures link losses ≡ 0 → failures relay losses ≡ 0
     → RoseBy low high (failures archive losses) → RoseBy of_disk now (failures disk losses)
-    → IsSilent (counts turns calls calls (faults of_link low of_disk) (faults of_link high now))
+    → IsSilent (counts turns calls calls (faults of_link low of_disk 0) (faults of_link high now 0))
     no_traffic losses
-silent turns calls of_link low high of_disk now losses none files index = record {
+silent turns calls of_link low high of_disk now losses none no_relay files index = record {
   traffic = refl;
   calls = refl;
   rose = rose;
 }
   where
-    rose : Rose (faults of_link low of_disk) (faults of_link high now) losses
+    rose : Rose (faults of_link low of_disk 0) (faults of_link high now 0) losses
     rose link = rw none (rose_none of_link)
     rose archive = files
     rose disk = index
+    rose relay = rw no_relay (rose_none 0)
 
 -- nobody was served from an index that is open
 pub start_ends : {A T : Type 0} (of_files : block_files.Ghosts A)
@@ -265,25 +280,25 @@ pub start_ends : {A T : Type 0} (of_files : block_files.Ghosts A)
     → (e ≡ start.OtherChain → IsOtherChain of_files magic index before after)
     → LeavesChain index leaves
     → ServeEnds of_files magic limits index leaves
-    (counts turns calls calls (faults of_link low of_disk) (faults of_link high now))
+    (counts turns calls calls (faults of_link low of_disk 0) (faults of_link high now 0))
     before after no_traffic (start_status e)
 start_ends of_files magic limits index leaves turns calls of_link low high of_disk now before
     after start.DiskFailed reads counts other left =
     inl (
-      silent turns calls of_link low high of_disk now (disk ∷ []) refl
+      silent turns calls of_link low high of_disk now (deed.lost disk ∷ []) refl refl
           (rose_still low high (reads.others_uncounted (λ e. cc))) (counts.counted refl),
       left,
     )
 start_ends of_files magic limits index leaves turns calls of_link low high of_disk now before
     after start.ArchiveFailed reads counts other left = (
-      silent turns calls of_link low high of_disk now (archive ∷ []) refl (reads.counted refl)
+      silent turns calls of_link low high of_disk now (deed.lost archive ∷ []) refl refl (reads.counted refl)
           (rose_still of_disk now (counts.others_uncounted (λ e. cc))),
       left,
     )
 start_ends of_files magic limits index leaves turns calls of_link low high of_disk now before
     after start.OtherChain reads counts other left = (
       other refl,
-      silent turns calls of_link low high of_disk now [] refl
+      silent turns calls of_link low high of_disk now [] refl refl
           (rose_still low high (reads.others_uncounted (λ e. cc)))
           (rose_still of_disk now (counts.others_uncounted (λ e. cc))),
       left,
@@ -291,7 +306,7 @@ start_ends of_files magic limits index leaves turns calls of_link low high of_di
 start_ends of_files magic limits index leaves turns calls of_link low high of_disk now before
     after start.Memory reads counts other left =
     inl (
-      silent turns calls of_link low high of_disk now [] refl
+      silent turns calls of_link low high of_disk now [] refl refl
           (rose_still low high (reads.others_uncounted (λ e. cc)))
           (rose_still of_disk now (counts.others_uncounted (λ e. cc))),
       left,
@@ -304,22 +319,22 @@ pub unopened_ends : (sure : Bool) (was flight : Chain) (leaves : Chain → Chain
     → (sure ≡ true → (s ≢ status.BadIndex) × leaves was flight)
     → (s ≡ status.DiskFailed → RoseBy low high 1) → (s ≢ status.DiskFailed → high ≡ low)
     → UnopenedEnds sure was flight leaves
-    (counts turns calls calls (faults of_link of_archive low) (faults of_link of_archive high))
+    (counts turns calls calls (faults of_link of_archive low 0) (faults of_link of_archive high 0))
     no_traffic s
 unopened_ends sure was flight leaves turns calls of_link of_archive low high s is left counted uncounted =
     elim is [
       | inl bad ↦ rw bad (
         unsure sure (λ yes. (left yes).0 bad),
-        silent turns calls of_link of_archive of_archive low high [] refl (rose_none of_archive)
+        silent turns calls of_link of_archive of_archive low high [] refl refl (rose_none of_archive)
             (rose_still low high (uncounted (λ e. other_status (sym bad ∙ e)))),
       )
       | inr (inl failed) ↦ rw failed (
-        silent turns calls of_link of_archive of_archive low high (disk ∷ []) refl (rose_none of_archive)
+        silent turns calls of_link of_archive of_archive low high (deed.lost disk ∷ []) refl refl (rose_none of_archive)
             (counted failed),
         λ yes. (left yes).1,
       )
       | inr (inr memory) ↦ rw memory (
-        silent turns calls of_link of_archive of_archive low high [] refl (rose_none of_archive)
+        silent turns calls of_link of_archive of_archive low high [] refl refl (rose_none of_archive)
             (rose_still low high (uncounted (λ e. cc))),
         λ yes. (left yes).1,
       )
@@ -349,16 +364,16 @@ pub unread_ends : {A T : Type 0} (of_files : block_files.Ghosts A) (magic : List
     → OnlyReads {T = T} of_files.tells before after low high fault.Failed (Err e)
     → (e ≡ fault.Bad → IsBadFile of_files magic before after)
     → OnceEnds of_files magic
-    (counts turns calls calls (faults of_link low of_disk) (faults of_link high of_disk))
+    (counts turns calls calls (faults of_link low of_disk 0) (faults of_link high of_disk 0))
     before after no_traffic (unread_status e)
 unread_ends of_files magic turns calls of_link low high of_disk before after fault.Failed reads bad =
-    silent turns calls of_link low high of_disk of_disk (archive ∷ []) refl (reads.counted refl)
+    silent turns calls of_link low high of_disk of_disk (deed.lost archive ∷ []) refl refl (reads.counted refl)
     (rose_none of_disk)
 unread_ends of_files magic turns calls of_link low high of_disk before after fault.Memory reads bad =
-    inl (silent turns calls of_link low high of_disk of_disk [] refl
+    inl (silent turns calls of_link low high of_disk of_disk [] refl refl
     (rose_still low high (reads.others_uncounted (λ e. cc))) (rose_none of_disk))
 unread_ends of_files magic turns calls of_link low high of_disk before after fault.Bad reads bad = (
   bad refl,
-  silent turns calls of_link low high of_disk of_disk [] refl
+  silent turns calls of_link low high of_disk of_disk [] refl refl
       (rose_still low high (reads.others_uncounted (λ e. cc))) (rose_none of_disk),
 )

@@ -1,7 +1,8 @@
 -- How a call of `check-chain` ends, over a disk whose files are empty.
 use Rattle.std.specs.Prelude.{◌≡◌, ◌≤◌, ℕ, List, [], ◌∷◌}
 use Rattle.el_outside.specs.declared.disk.Disk as disks
-use Rattle.el_outside.specs.Devices.{disk, link, Rose}
+use Rattle.el_side.specs.Deeds as deed
+use Rattle.el_side.specs.Deeds.{disk, link, Rose}
 use Rattle.el_outside.specs.Trace.{Trace}
 use Rattle.el_gen.specs.MadeFile.{regtest_magic}
 use Rattle.el_check_chain.specs.Checked.{Way, summary_at_end}
@@ -24,8 +25,8 @@ pub record IsSent (c : Counts) (t : Trace) (text : List ℕ) : Type 0 where
 -- since a call of the index's device failed, or the send, or no memory was found.
 abbrev pub SummaryEnds : (List ℕ → Type 0) → Counts → Trace → Status → Type 0
 SummaryEnds is_line c t status.Ended = (text : List ℕ) × is_line text × IsSent c t text
-SummaryEnds is_line c t status.DiskFailed = IsSilent c t (disk ∷ [])
-SummaryEnds is_line c t status.LinkFailed = IsSilent c t (link ∷ [])
+SummaryEnds is_line c t status.DiskFailed = IsSilent c t (deed.lost disk ∷ [])
+SummaryEnds is_line c t status.LinkFailed = IsSilent c t (deed.lost link ∷ [])
 SummaryEnds is_line c t status.OutOfMemory = IsSilent c t []
 SummaryEnds is_line c t other = ⊥
 

@@ -1,7 +1,7 @@
 -- Calls in which no call of a device fails.
 use Rattle.std.specs.Prelude.{◌≡◌, ◌<◌, ⊤}
 use Rattle.el_outside.specs.Counts.{count_limit}
-use Rattle.el_outside.specs.Devices.{Device}
+use Rattle.el_side.specs.Deeds.{Device}
 use Rattle.el_outside.specs.Trace.{Trace}
 use Rattle.el_loop.specs.Counts.{Counts}
 use Rattle.el_undisturbed.specs.Undisturbed.{Undisturbed}

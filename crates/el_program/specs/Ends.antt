@@ -7,7 +7,8 @@ use Rattle.el_chain.specs.declared.node.Node.{Node}
 use Rattle.el_chain.specs.Chains.{Chain}
 use Rattle.el_mempool.specs.declared.entry.PoolLimits.{PoolLimits}
 use Rattle.el_world.specs.World.{initial_world}
-use Rattle.el_outside.specs.Devices.{Device, archive, disk}
+use Rattle.el_side.specs.Deeds as deed
+use Rattle.el_side.specs.Deeds.{Deed, archive, disk}
 use Rattle.el_words.specs.Commands.{IsNoCommand, IsServe, IsOnce}
 use Rattle.el_words.specs.Words.{greatest_limits}
 use Rattle.el_chain.specs.Moves.{StoodAt}
@@ -15,7 +16,7 @@ use Rattle.el_files.specs.Scanning.{WasScanned}
 use Rattle.el_program.specs.File.{HasBadBlock}
 use Rattle.el_program.specs.Opened.{IndexChain, AreHeaders, all_added, IsScanned, IsRead}
 use Rattle.el_program.specs.OtherChain.{is_other_chain}
-use Rattle.el_outside.specs.Devices.{Rose}
+use Rattle.el_side.specs.Deeds.{Rose}
 use Rattle.el_loop.specs.Counts.{Counts}
 use Rattle.el_loop.specs.Runs.{no_traffic, RunEnds}
 use Rattle.el_loop.specs.declared.end.End.{End}
@@ -24,7 +25,7 @@ use Rattle.el_program.specs.declared.status.Status.{Status}
 use Rattle.el_program.specs.declared.status.Status.TheVariants as status
 
 -- the link was not called, and these calls failed
-pub record IsSilent (c : Counts) (t : Trace) (losses : List Device) : Type 0 where
+pub record IsSilent (c : Counts) (t : Trace) (losses : List Deed) : Type 0 where
   pub traffic : t ≡ no_traffic
   pub calls : c.calls_after ≡ c.calls_before
   pub rose : Rose c.faults_before c.faults_after losses
@@ -71,12 +72,12 @@ ServeEnds of_files magic limits index leaves c before after t status.TurnsSpent 
     IsServed of_files magic limits index leaves c before after t end.TurnsSpent
 -- a call of the block files failed before the first arrival
 ServeEnds of_files magic limits index leaves c before after t status.ArchiveFailed =
-    IsSilent c t (archive ∷ []) × LeavesChain index leaves
+    IsSilent c t (deed.lost archive ∷ []) × LeavesChain index leaves
 ServeEnds of_files magic limits index leaves c before after t status.OtherChain =
     IsOtherChain of_files magic index before after × IsSilent c t [] × LeavesChain index leaves
 -- a call of the index's device failed before the first arrival, or in the run
 ServeEnds of_files magic limits index leaves c before after t status.DiskFailed =
-    (IsSilent c t (disk ∷ []) × LeavesChain index leaves)
+    (IsSilent c t (deed.lost disk ∷ []) × LeavesChain index leaves)
     ⊎ IsServed of_files magic limits index leaves c before after t end.DiskFailed
 -- out of memory before the first arrival, or in the run
 ServeEnds of_files magic limits index leaves c before after t status.OutOfMemory =
@@ -89,7 +90,7 @@ ServeEnds of_files magic limits index leaves c before after t other = ⊥
 abbrev pub UnopenedEnds : Bool → Chain → Chain → (Chain → Chain → Type 0) → Counts → Trace → Status → Type 0
 -- a call of the index's device failed
 UnopenedEnds sure was flight leaves c t status.DiskFailed =
-    IsSilent c t (disk ∷ []) × (sure ≡ true → leaves was flight)
+    IsSilent c t (deed.lost disk ∷ []) × (sure ≡ true → leaves was flight)
 UnopenedEnds sure was flight leaves c t status.OutOfMemory =
     IsSilent c t [] × (sure ≡ true → leaves was flight)
 -- it is no index
@@ -147,7 +148,7 @@ OnceEnds of_files magic c before after t status.LinkFailed =
 OnceEnds of_files magic c before after t status.TurnsSpent =
     IsServedOnce of_files magic c before after t end.TurnsSpent
 -- a call of the block files failed before the first arrival
-OnceEnds of_files magic c before after t status.ArchiveFailed = IsSilent c t (archive ∷ [])
+OnceEnds of_files magic c before after t status.ArchiveFailed = IsSilent c t (deed.lost archive ∷ [])
 -- out of memory before the first arrival, or in the run
 OnceEnds of_files magic c before after t status.OutOfMemory =
     IsSilent c t [] ⊎ IsServedOnce of_files magic c before after t end.OutOfMemory

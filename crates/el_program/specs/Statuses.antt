@@ -1,6 +1,6 @@
 -- How the program ends, and how it tells that: the exit status, and a line on standard error.
 use Rattle.std.specs.Prelude.{◌≡◌, ℕ, List, [], ◌∷◌, ◌++◌, codes, Option, None, Some}
-use Rattle.el_outside.specs.Devices.{Device, link, archive, disk}
+use Rattle.el_side.specs.Deeds.{Device, link, archive, disk}
 use Rattle.el_loop.specs.Counts.{Counts, IsCaused}
 use Rattle.el_loop.specs.declared.end.End.{End}
 use Rattle.el_loop.specs.declared.end.End.TheVariants as end

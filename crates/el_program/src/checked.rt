@@ -1,7 +1,7 @@
 // `check-chain`: an index on the disk is checked over a made file, and summed up to client 1.
 ghost use Rattle.std.specs.Prelude.{◌≡◌, ◌≢◌, ◌⊎◌, ◌≤◌, ℕ, [], ◌∷◌};
 ghost use Rattle.el_outside.specs.Counts.{RoseBy};
-ghost use Rattle.el_outside.specs.Devices.{faults};
+ghost use Rattle.el_side.specs.Deeds.{faults};
 ghost use Rattle.el_outside.specs.Trace.{Trace, GoesOn};
 ghost use Rattle.el_loop.specs.Counts.{counts};
 ghost use Rattle.el_loop.specs.Runs.{WentBy};
@@ -21,6 +21,7 @@ use el_gen::MOST_MADE;
 use el_model::QueryFault;
 use el_outside::{Disk, Link, Pace, Peer, SendFault};
 use el_redo::Regtest;
+use el_row_formats::MIN_HEAD_BITS;
 use std::alloc::Global;
 use std::thread::Threads;
 
@@ -70,7 +71,7 @@ fn send_summary<K: Link>(alloc: Global, link: &mut K, summary: &Summary) -> Stat
     }
 }
 
-/// Opens an index on the disk, leads it over the made file of so many blocks, and sends client 1 the line
+/// Opens an index on the disk, with 65,536 buckets where it is made, leads it over the made file of so many blocks, and sends client 1 the line
 /// that sums it up. The disk comes back as it stands.
 pub fn serve_check<W: Threads + Sync, D: Disk, K: Link>(
     rt: &W,
@@ -87,19 +88,19 @@ pub fn serve_check<W: Threads + Sync, D: Disk, K: Link>(
         × WentBy ⟦<K as Link>⟧ link.old link.new t
         × SummaryEnds (IsCheckedDisk ⟦<D as Disk>⟧ count disk result.1)
         (counts turns (K.calls link.old) (K.calls link.new)
-        (faults (K.faults link.old) of_files (D.faults disk))
-        (faults (K.faults link.new) of_files (D.faults result.1))) t result.0 }
+        (faults (K.faults link.old) of_files (D.faults disk) 0)
+        (faults (K.faults link.new) of_files (D.faults result.1) 0)) t result.0 }
     ensures causes { (turns of_files : ℕ) → ShowsCause
         (counts turns (K.calls link.old) (K.calls link.new)
-        (faults (K.faults link.old) of_files (D.faults disk))
-        (faults (K.faults link.new) of_files (D.faults result.1))) result.0 }
+        (faults (K.faults link.old) of_files (D.faults disk) 0)
+        (faults (K.faults link.new) of_files (D.faults result.1) 0)) result.0 }
     ensures others { D.tells → OthersStay ⟦<D as Disk>⟧ disk result.1 }
     ensures kept_counts { result.0 ≡ Status.BadIndex → D.faults result.1 ≡ D.faults disk }
     ensures read { result.0 ≢ Status.Usage }
     ensures unserved { IsUnserved result.0 → link.new ≡ link.old }
 {
     check_leads_along_both_branches();
-    match open_index::<D, Regtest>(alloc, disk) {
+    match open_index::<D, Regtest>(alloc, disk, MIN_HEAD_BITS) {
         Ok(index) => {
             let (checked, rows) = check_chain(rt, alloc, index, count, pace);
             let disk = rows.into_disk();

@@ -5,7 +5,7 @@ ghost use Rattle.el_chain.specs.Chains.{Chain};
 ghost use Rattle.el_loop.specs.Counts.{counts_of};
 ghost use Rattle.el_loop.specs.Runs.{WentBy};
 ghost use Rattle.el_methods.specs.Archives.{HasRecords};
-ghost use Rattle.el_undisturbed.specs.HasAll.{HoldBytesAlone};
+ghost use Rattle.el_undisturbed.specs.WholeRecords.{ShowWholeRecords};
 ghost use Rattle.el_words.specs.Commands.{IsServe, IsOnce};
 ghost use Rattle.el_program.specs.AnyCall.{IsCall};
 ghost use Rattle.el_program.specs.Calls.{Call};
@@ -19,12 +19,14 @@ use el_outside::{Archive, Disk, Link};
 use el_undisturbed::runs_are_undisturbed;
 
 /// A call of `serve` in which no call of a device failed ends as its link does, or for no device, and nothing
-/// is told or closed for a failure: over an index of a chain, where the block files have its records and
-/// nothing in them is made ahead. So does a call with the words of `once`, over any such block files.
+/// is told or closed for a failure: over an index of a chain, where the block files have its records, and
+/// what is found in them during the call is whole. So does a call with the words of `once`, over any such
+/// block files.
 pub fn calls_without_failures_are_complete<D: Disk, A: Archive, K: Link>()
     ensures serve { (c : Call D A K) (magic : List ℕ) (was flight chain : Chain)
         → IsCall ⟦<D as Disk>⟧ ⟦<A as Archive>⟧ ⟦<K as Link>⟧ c → (asked : IsServe c.words magic)
-        → A.tells → HoldBytesAlone ⟦<A as Archive>⟧
+        → A.tells
+        → ShowWholeRecords ⟦<A as Archive>⟧ magic (A.bytes c.before.files) (A.bytes c.after.files)
         → IsIndexDisk ⟦<D as Disk>⟧ magic c.before.disk was flight chain
         → HasRecords (A.bytes c.before.files) chain
         → NoneFailed (counts_of D.faults ⟦<A as Archive>⟧ ⟦<K as Link>⟧ c.turns c.before c.after)
@@ -35,7 +37,8 @@ pub fn calls_without_failures_are_complete<D: Disk, A: Archive, K: Link>()
         c.before.files c.after.files t c.status × IsComplete t c.status }
     ensures once { (c : Call D A K) (magic : List ℕ)
         → IsCall ⟦<D as Disk>⟧ ⟦<A as Archive>⟧ ⟦<K as Link>⟧ c → IsOnce c.words magic
-        → A.tells → HoldBytesAlone ⟦<A as Archive>⟧
+        → A.tells
+        → ShowWholeRecords ⟦<A as Archive>⟧ magic (A.bytes c.before.files) (A.bytes c.after.files)
         → NoneFailed (counts_of D.faults ⟦<A as Archive>⟧ ⟦<K as Link>⟧ c.turns c.before c.after)
         → (t : Trace) × WentBy ⟦<K as Link>⟧ c.before.link c.after.link t
         × OnceEnds ⟦<A as Archive>⟧ magic

@@ -1,17 +1,21 @@
 // The index on a disk.
-ghost use Rattle.std.specs.Prelude.{◌≡◌, ◌≢◌, ◌⊎◌, ◌<◌, ◌≤◌, ℕ, IfOk, IfErr, MatchResult};
+ghost use Rattle.std.specs.Prelude.{◌≡◌, ◌≢◌, ◌⊎◌, ◌≤◌, ◌^◌, ℕ, IfOk, IfErr, MatchResult};
 ghost use Rattle.el_chain.specs.Chains.{Chain};
 ghost use Rattle.el_outside.specs.Counts.{RoseBy};
-ghost use Rattle.el_program.specs.IndexDisks.{LeavesOneOf, IsNoIndex, IsAsBefore, IsIndexDisk};
-ghost use Rattle.el_program.specs.OtherFiles.{OthersStay, last_file};
+ghost use Rattle.el_migrate.specs.ImageChains.{IsNoIndex, IsBeyond};
+ghost use Rattle.el_pages.specs.Indexes.{IsRooted};
+ghost use Rattle.el_row_formats.specs.declared.limits.TheConstants.{MIN_HEAD_BITS, MAX_HEAD_BITS};
+ghost use Rattle.el_program.specs.IndexDisks.{LeavesOneOf, IsAsBefore, IsIndexDisk};
+ghost use Rattle.el_program.specs.OtherFiles.{OthersStay};
 ghost use Rattle.el_program.specs.within.Unread.{open_status};
 
 use crate::status::Status;
 use el_index::Index;
+use el_migrate::{Watch, open_any};
 use el_outside::Disk;
 use el_pages::Pages;
-use el_recovery::{an_image_stands_for_one_index, open_pages};
 use el_redo::{NetworkMagic, OpenFault};
+use el_row_formats::Table;
 use std::alloc::Global;
 
 // How the program ends where the index can't be opened.
@@ -25,8 +29,16 @@ fn status_of(fault: OpenFault) -> Status
     }
 }
 
-/// Opens the index that the disk keeps for the network. A disk that was never written is an index of no
-/// blocks.
+// Nobody is told how far a migration is.
+#[derive(Drop)]
+struct Untold;
+
+impl Watch for Untold {
+    fn moved(&mut self, _: Table, _: u64, _: u64) {}
+}
+
+/// Opens the index that the disk keeps for the network. One of format 1 becomes one of format 2 first, with
+/// 2^bits buckets; one of format 2 keeps its own. A disk that was never written is an index of no blocks.
 ///
 /// # Errors
 ///
@@ -35,11 +47,17 @@ fn status_of(fault: OpenFault) -> Status
 pub fn open_index<D: Disk, N: NetworkMagic>(
     alloc: Global,
     disk: D,
+    bits: u32,
 ) -> Result<Index<Pages<D, N>>, (Status, D)>
+    requires least { MIN_HEAD_BITS ≤ bits }
+    requires most { bits ≤ MAX_HEAD_BITS }
     ensures live { IfOk result (λ i. ⟦<Index<Pages<D, N>> as el_model::Ledger>⟧.is_live i) }
     // It stands for what the disk stands for as it reads.
     ensures stands { (was flight chain : Chain) → IsIndexDisk ⟦<D as Disk>⟧ N.magic disk was flight chain
         → IfOk result (λ i. ⟦<Index<Pages<D, N>> as el_model::Ledger>⟧.stands i chain) }
+    // Where format 2 isn't live it has as many buckets then as is wanted.
+    ensures buckets { D.tells → (IsRooted (D.seen disk) → ⊥) → IfOk result (λ i.
+        ⟦<Index<Pages<D, N>> as el_model::Ledger>⟧.buckets i ≡ 2 ^ bits) }
     // Its clock goes on from the disk's.
     ensures later { D.tells → IfOk result (λ i. D.moment disk
         ≤ ⟦<Index<Pages<D, N>> as el_model::Ledger>⟧.moment i) }
@@ -47,7 +65,7 @@ pub fn open_index<D: Disk, N: NetworkMagic>(
         → IfErr result (λ e. (e.0 ≢ Status.BadIndex) × LeavesOneOf ⟦<D as Disk>⟧ N.magic e.1 was flight) }
     ensures status { IfErr result (λ e. (e.0 ≡ Status.BadIndex)
         ⊎ ((e.0 ≡ Status.DiskFailed) ⊎ (e.0 ≡ Status.OutOfMemory))) }
-    // It is bad exactly where the disk stands for no tables.
+    // It is bad exactly where the disk is no index in the format that is live.
     ensures bad { D.tells → IfErr result (λ e. e.0 ≡ Status.BadIndex
         → IsNoIndex N.magic (D.seen disk)) }
     // That it is bad is told without memory.
@@ -57,7 +75,7 @@ pub fn open_index<D: Disk, N: NetworkMagic>(
     ensures kept { D.tells → IsNoIndex N.magic (D.seen disk)
         → IfErr result (λ e. IsAsBefore ⟦<D as Disk>⟧ disk e.1) }
     // Beside the index stands what stood in the files beyond its own, which are as they were.
-    ensures beside { D.tells → IfOk result (λ i. (f : ℕ) → last_file < f
+    ensures beside { D.tells → IfOk result (λ i. (f : ℕ) → IsBeyond f
         → ⟦<Index<Pages<D, N>> as el_model::Ledger>⟧.beside i f ≡ D.seen disk f) }
     ensures others { D.tells → IfErr result (λ e. OthersStay ⟦<D as Disk>⟧ disk e.1) }
     ensures uncounted { IfOk result (λ i. ⟦<Index<Pages<D, N>> as el_model::Ledger>⟧.faults i
@@ -67,9 +85,7 @@ pub fn open_index<D: Disk, N: NetworkMagic>(
     ensures others_uncounted { IfErr result (λ e. e.0 ≢ Status.DiskFailed
         → D.faults e.1 ≡ D.faults disk) }
 {
-    // A law: an image stands for one index, so that what a crash leaves has one meaning.
-    an_image_stands_for_one_index();
-    let store = match open_pages::<D, N>(alloc, disk) {
+    let store = match open_any::<D, N, Untold>(alloc, disk, bits, &mut Untold) {
         Ok(store) => store,
         Err((fault, disk)) => return Err((status_of(fault), disk)),
     };

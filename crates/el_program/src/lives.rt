@@ -3,10 +3,11 @@ ghost use Rattle.std.specs.Prelude.{◌≡◌, ℕ, List, [], length};
 ghost use Rattle.std.specs.List.{AllByRecursion};
 ghost use Rattle.el_chain.specs.Chains.{Chain};
 ghost use Rattle.el_outside.specs.Disk.{Image};
+ghost use Rattle.el_migrate.specs.ImageChains.{ImageStands};
 ghost use Rattle.el_words.specs.Commands.{IsServe};
 ghost use Rattle.el_words.specs.Words.{texts};
 ghost use Rattle.el_program.specs.Calls.{Call};
-ghost use Rattle.el_program.specs.IndexDisks.{ImageMeans, LeavesOneOf};
+ghost use Rattle.el_program.specs.IndexDisks.{LeavesOneOf};
 ghost use Rattle.el_program.specs.AnyCall.{IsCall};
 ghost use Rattle.el_program.specs.Lives.{AreLives, AreOver, GoOn, IsFresh, IsLeftBy, LeavesOthers, last_disk};
 ghost use Rattle.el_program.specs.within.Lived.{Lived};
@@ -22,7 +23,7 @@ use std::thread::Threads;
 /// that then was in flight. The first life finds empty files, which stand for no blocks.
 pub fn lives_go_on<D: Disk, A: Archive, K: Link>()
     ensures empty { (magic : List ℕ) (image : Image) → ((f : ℕ) → image f ≡ [])
-        → ImageMeans magic image [] }
+        → ImageStands magic image [] }
     ensures go_on { (magic : List ℕ) (disk : D) (was flight : Chain) (lives : List (Call D A K)) → D.tells
         → LeavesOneOf ⟦<D as Disk>⟧ magic disk was flight → AreLives ⟦<D as Disk>⟧ disk lives
         → AllByRecursion (λ l. IsServe l.words magic) lives

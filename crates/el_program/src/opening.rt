@@ -2,10 +2,12 @@
 ghost use Rattle.std.specs.Prelude.{◌≡◌, ◌≢◌, ℕ, List, [], Err, IfOk, OnOk, IsErrOf, true, false};
 ghost use Rattle.std.specs.List.{AllByRecursion};
 ghost use Rattle.el_outside.specs.Counts.{OnlyReads, CountsOnly};
+ghost use Rattle.el_chain.specs.Chains.{Chain};
 ghost use Rattle.el_chain.specs.Records.{IsNode};
 ghost use Rattle.el_chain.specs.declared.node.Node as shape;
 ghost use Rattle.el_files.specs.Scanning.{ScansOnce};
 ghost use Rattle.el_model.specs.LedgerCalls.{Asked};
+ghost use Rattle.el_side.specs.Caching.{CachesStand};
 ghost use Rattle.el_program.specs.Ends.{IsOtherChain};
 ghost use Rattle.el_program.specs.Opened.{IndexChain, AreHeaders, IsScanned, all_added};
 ghost use Rattle.el_program.specs.OtherChain as other;
@@ -20,6 +22,7 @@ use el_files::scan;
 use el_headers::HeaderTree;
 use el_model::{Ledger, QueryFault};
 use el_outside::Archive;
+use el_side::Caches;
 use std::alloc::Global;
 
 /// Why nobody is served from an index that is open.
@@ -126,22 +129,38 @@ fn tree_of_chain(
     }
 }
 
-/// The tree of the headers of the ledger's chain and then of those of all block files.
+/// What is computed once of the ledger's chain.
+pub fn caches_of<G: Ledger>(alloc: Global, ledger: &mut G) -> Result<Caches, QueryFault>
+    requires live { G.is_live ledger.old }
+    ensures stand { (chain : Chain) → G.stands ledger.old chain
+        → IfOk result (λ caches. CachesStand caches chain chain) }
+    ensures quiet { Asked ⟦<G as Ledger>⟧ ledger.old ledger.new }
+    ensures cause { CountsOnly (G.faults ledger.old) (G.faults ledger.new) QueryFault.DiskFailed result }
+{
+    let mut caches = Caches::new(alloc);
+    caches.follow(alloc, ledger)?;
+    Ok(caches)
+}
+
+/// The tree of the headers of the ledger's chain and then of those of all block files, and what is computed
+/// once of the chain.
 pub fn open_headers<G: Ledger, A: Archive>(
     alloc: Global,
     ledger: &mut G,
     archive: &mut A,
     magic: [u8; 4],
-) -> Result<HeaderTree, StartFault>
+) -> Result<(HeaderTree, Caches), StartFault>
     requires live { G.is_live ledger.old }
     ensures opened { (index : IndexChain) → (index.sure ≡ true → G.stands ledger.old index.chain)
-        → IfOk result (λ tree. (headers nodes : List shape.Node) × AreHeaders index headers
+        → IfOk result (λ r. (headers nodes : List shape.Node) × AreHeaders index headers
         × IsScanned ⟦<A as Archive>⟧ magic archive.old archive.new nodes
-        × (tree ≡ all_added (all_added [] headers) nodes)
+        × (r.0 ≡ all_added (all_added [] headers) nodes)
         × (other.is_other_chain headers nodes ≡ false)) }
     ensures other { (index : IndexChain) → (index.sure ≡ true → G.stands ledger.old index.chain)
         → IsErrOf result StartFault.OtherChain
         → IsOtherChain ⟦<A as Archive>⟧ magic index archive.old archive.new }
+    ensures caches { (chain : Chain) → G.stands ledger.old chain
+        → IfOk result (λ r. CachesStand r.1 chain chain) }
     // The block files are scanned once.
     ensures calls { A.tells → OnOk result (ScansOnce ⟦<A as Archive>⟧ archive.old archive.new) }
     ensures quiet { Asked ⟦<G as Ledger>⟧ ledger.old ledger.new }
@@ -153,8 +172,16 @@ pub fn open_headers<G: Ledger, A: Archive>(
         Ok(index) => index,
         Err(fault) => return Err(index_fault_of(fault)),
     };
-    match scan_all(alloc, archive, magic) {
-        Ok(found) => tree_of_chain(alloc, index, found),
-        Err(fault) => Err(start_fault_of(fault)),
+    let caches = match caches_of(alloc, ledger) {
+        Ok(caches) => caches,
+        Err(fault) => return Err(index_fault_of(fault)),
+    };
+    let found = match scan_all(alloc, archive, magic) {
+        Ok(found) => found,
+        Err(fault) => return Err(start_fault_of(fault)),
+    };
+    match tree_of_chain(alloc, index, found) {
+        Ok(tree) => Ok((tree, caches)),
+        Err(fault) => Err(fault),
     }
 }

@@ -1,5 +1,5 @@
 // The whole of the program.
-ghost use Rattle.std.specs.Prelude.{◌≡◌, ◌≢◌, ◌<◌, ℕ, true, List, [], IfOk, IsErrOf};
+ghost use Rattle.std.specs.Prelude.{◌≡◌, ◌≢◌, ◌<◌, ◌≤◌, ℕ, true, List, [], IfOk, IsErrOf};
 ghost use Rattle.el_outside.specs.Counts.{OnlyReads};
 ghost use Rattle.el_outside.specs.Files.{AllGrow};
 ghost use Rattle.el_outside.specs.Trace.{Trace};
@@ -7,7 +7,10 @@ ghost use Rattle.el_chain.specs.declared.node.Node as shape;
 ghost use Rattle.el_chain.specs.Chains.{Chain};
 ghost use Rattle.el_words.specs.Words.{IsCheckOf, network_magic, texts};
 ghost use Rattle.el_words.specs.Commands.{IsNoCommand, IsServe};
-ghost use Rattle.el_program.specs.IndexDisks.{LeavesOneOf, IsNoIndex, IsAsBefore, IsIndexDisk};
+ghost use Rattle.el_migrate.specs.ImageChains.{IsNoIndex};
+ghost use Rattle.el_row_formats.specs.declared.limits.TheConstants.{MIN_HEAD_BITS, MAX_HEAD_BITS};
+ghost use Rattle.el_side.specs.Caching.{CachesStand};
+ghost use Rattle.el_program.specs.IndexDisks.{LeavesOneOf, IsAsBefore, IsIndexDisk};
 ghost use Rattle.el_program.specs.AnyCall.{IsCall};
 ghost use Rattle.el_loop.specs.Counts.{counts_of, devices};
 ghost use Rattle.el_program.specs.Calls.{call};
@@ -21,7 +24,7 @@ ghost use Rattle.el_program.specs.within.Unread.{unread_status};
 use crate::checked::serve_check;
 use crate::file::{FileFault, read_chain};
 use crate::index_disk::open_index;
-use crate::opening::tree_of;
+use crate::opening::{caches_of, tree_of};
 use crate::starting::serve_index;
 use crate::status::Status;
 use el_headers::HeaderTree;
@@ -30,6 +33,7 @@ use el_mempool::PoolLimits;
 use el_outside::{Archive, Disk, Link, Pace};
 use el_plain::PlainLedger;
 use el_redo::{Mainnet, NetworkMagic, Regtest, Testnet3};
+use el_side::Caches;
 use el_words::{Network, check_of, greatest_limits, once_of, serve_of};
 use std::alloc::Global;
 use std::thread::Threads;
@@ -45,15 +49,16 @@ fn status_of(fault: FileFault) -> Status
     }
 }
 
-// The chain of file 0, and the tree of its records.
+// The chain of file 0, the tree of its records, and what is computed once of the chain.
 fn open_file<A: Archive>(
     alloc: Global,
     archive: &mut A,
     magic: [u8; 4],
-) -> Result<(HeaderTree, PlainLedger), FileFault>
+) -> Result<(HeaderTree, PlainLedger, Caches), FileFault>
     ensures opened { IfOk result (λ r. (nodes : List shape.Node)
         × IsRead ⟦<A as Archive>⟧ (A.bytes archive.old) (A.bytes archive.new) magic nodes r.1
-        × (r.0 ≡ all_added [] nodes)) }
+        × (r.0 ≡ all_added [] nodes)
+        × CachesStand r.2 r.1 r.1) }
     ensures bad { IsErrOf result FileFault.Bad
         → IsBadFile ⟦<A as Archive>⟧ magic (A.bytes archive.old) (A.bytes archive.new) }
     ensures only_reads { OnlyReads A.tells (A.bytes archive.old) (A.bytes archive.new)
@@ -63,8 +68,12 @@ fn open_file<A: Archive>(
         Ok(read) => read,
         Err(fault) => return Err(fault),
     };
-    match tree_of(alloc, &[], nodes.as_slice()) {
-        Ok(tree) => Ok((tree, PlainLedger::over(chain))),
+    let Ok(tree) = tree_of(alloc, &[], nodes.as_slice()) else {
+        return Err(FileFault::Memory);
+    };
+    let mut ledger = PlainLedger::over(chain);
+    match caches_of(alloc, &mut ledger) {
+        Ok(caches) => Ok((tree, ledger, caches)),
         Err(_) => Err(FileFault::Memory),
     }
 }
@@ -75,11 +84,14 @@ fn serve_disk<W: Threads + Sync, D: Disk, N: NetworkMagic, A: Archive, K: Link>(
     alloc: Global,
     limits: PoolLimits,
     disk: D,
+    bits: u32,
     archive: &mut A,
     link: &mut K,
     pace: &(dyn Pace + Sync),
     turns: u64,
 ) -> (Status, D)
+    requires least { MIN_HEAD_BITS ≤ bits }
+    requires most { bits ≤ MAX_HEAD_BITS }
     ensures ends { (was flight : Chain) (index : IndexChain)
         → (index.sure ≡ true → IsIndexDisk ⟦<D as Disk>⟧ N.magic disk was flight index.chain)
         → (traffic : Trace)
@@ -101,7 +113,7 @@ fn serve_disk<W: Threads + Sync, D: Disk, N: NetworkMagic, A: Archive, K: Link>(
     ensures unserved { IsUnserved result.0 → link.new ≡ link.old }
     ensures keeps { A.tells → AllGrow (A.bytes archive.old) (A.bytes archive.new) }
 {
-    match open_index::<D, N>(alloc, disk) {
+    match open_index::<D, N>(alloc, disk, bits) {
         Ok(index) => {
             let (status, index) = serve_index(
                 rt,
@@ -127,11 +139,14 @@ fn serve_network<W: Threads + Sync, D: Disk, A: Archive, K: Link>(
     network: Network,
     limits: PoolLimits,
     disk: D,
+    bits: u32,
     archive: &mut A,
     link: &mut K,
     pace: &(dyn Pace + Sync),
     turns: u64,
 ) -> (Status, D)
+    requires least { MIN_HEAD_BITS ≤ bits }
+    requires most { bits ≤ MAX_HEAD_BITS }
     ensures ends { (was flight : Chain) (index : IndexChain)
         → (index.sure ≡ true → IsIndexDisk ⟦<D as Disk>⟧ (network_magic network) disk was flight index.chain)
         → (traffic : Trace)
@@ -157,13 +172,13 @@ fn serve_network<W: Threads + Sync, D: Disk, A: Archive, K: Link>(
 {
     match network {
         Network::Main => serve_disk::<W, D, Mainnet, A, K>(
-            rt, alloc, limits, disk, archive, link, pace, turns,
+            rt, alloc, limits, disk, bits, archive, link, pace, turns,
         ),
         Network::Testnet3 => serve_disk::<W, D, Testnet3, A, K>(
-            rt, alloc, limits, disk, archive, link, pace, turns,
+            rt, alloc, limits, disk, bits, archive, link, pace, turns,
         ),
         Network::Regtest => serve_disk::<W, D, Regtest, A, K>(
-            rt, alloc, limits, disk, archive, link, pace, turns,
+            rt, alloc, limits, disk, bits, archive, link, pace, turns,
         ),
     }
 }
@@ -189,22 +204,24 @@ fn serve_file<W: Threads + Sync, A: Archive, K: Link>(
     ensures keeps { A.tells → AllGrow (A.bytes archive.old) (A.bytes archive.new) }
 {
     match open_file(alloc, archive, magic) {
-        Ok((tree, ledger)) => {
+        Ok((tree, ledger, caches)) => {
             let options = RunOptions {
                 magic,
                 limits: greatest_limits(),
                 node: false,
                 turns,
             };
-            let (end, _) = serve_from(rt, alloc, ledger, tree, archive, link, pace, options);
+            let (end, _) = serve_from(
+                rt, alloc, ledger, tree, caches, archive, link, pace, options,
+            );
             Status::of_end(end)
         }
         Err(fault) => status_of(fault),
     }
 }
 
-/// Does all that the program does. With the words of `serve` it opens the index on the disk, finds the
-/// headers of all block files, and answers the node and the clients of the link, from the chain to which the
+/// Does all that the program does. With the words of `serve` it opens the index on the disk, which becomes
+/// one of format 2 where it isn't, finds the headers of all block files, and answers the node and the clients of the link, from the chain to which the
 /// node leads it. With those of `once` it reads file 0, and answers the link's clients from its chain,
 /// without the disk. It ends as the link does, or fails, and makes at most `turns` calls of `next`. With
 /// those of `check-chain` it leads an index on the disk, whose files are to be empty, over a file that it
@@ -227,7 +244,7 @@ pub fn serve<W: Threads + Sync, D: Disk, A: Archive, K: Link>(
     // nothing.
     ensures ends { IsCall ⟦<D as Disk>⟧ ⟦<A as Archive>⟧ ⟦<K as Link>⟧ (call (texts words.now) turns
         (devices disk archive.old link.old) (devices result.1 archive.new link.new) result.0) }
-    // The index is bad exactly where the disk stands for no tables of the network.
+    // The index is bad exactly where the disk is none of the network, in the format that is live.
     ensures bad { D.tells → result.0 ≡ Status.BadIndex → (magic : List ℕ) → IsServe (texts words.now) magic
         → IsNoIndex magic (D.seen disk) }
     ensures is_bad { D.tells → (magic : List ℕ) → IsServe (texts words.now) magic
@@ -259,6 +276,7 @@ pub fn serve<W: Threads + Sync, D: Disk, A: Archive, K: Link>(
             settings.network,
             settings.limits,
             disk,
+            settings.head_bits,
             archive,
             link,
             pace,

@@ -63,14 +63,16 @@ pub fn serve_index<W: Threads + Sync, G: Ledger, A: Archive, K: Link>(
 {
     let mut ledger = ledger;
     match open_headers(alloc, &mut ledger, archive, magic) {
-        Ok(tree) => {
+        Ok((tree, caches)) => {
             let options = RunOptions {
                 magic,
                 limits,
                 node: true,
                 turns,
             };
-            let (end, ledger) = serve_from(rt, alloc, ledger, tree, archive, link, pace, options);
+            let (end, ledger) = serve_from(
+                rt, alloc, ledger, tree, caches, archive, link, pace, options,
+            );
             (Status::of_end(end), ledger)
         }
         Err(fault) => (status_of(fault), ledger),

@@ -4,8 +4,8 @@ use Rattle.std.proofs.Common.{append_assoc, append-nil, arith}
 use Rattle.std.specs.Prelude.{OnOk, OnErr, IfOk, IsOk, IsErrAnd, MatchResult, Some}
 use Rattle.serde_json.specs.Data.{Data}
 use Rattle.el_outside.specs.Counts.{RoseBy}
-use Rattle.el_outside.specs.Devices.{Device, link, archive, disk, failures}
-use Rattle.el_outside.proofs.Devices.{failures_on}
+use Rattle.el_side.specs.Deeds.{Deed, link, archive, disk, relay, failures}
+use Rattle.el_side.proofs.Deeds.{failures_on}
 use Rattle.el_outside.proofs.Traces.{rose_none, rose_more}
 use Rattle.el_side.specs.Side.{Side}
 use Rattle.el_json.specs.declared.request.Request.{Request}
@@ -33,13 +33,13 @@ counts d a (Err stop.Archive) h = h
 counts d a (Err stop.Changed) h = h
 counts d a (Err stop.Memory) h = h
 
-none_of_link : (given : Result Data Stop) → failures link (losses_of given) ≡ 0
-none_of_link (Ok answer) = refl
-none_of_link (Err (stop.Refused r)) = refl
-none_of_link (Err stop.Disk) = refl
-none_of_link (Err stop.Archive) = refl
-none_of_link (Err stop.Changed) = refl
-none_of_link (Err stop.Memory) = refl
+none_of_link : (given : Result Data Stop) → (failures link (losses_of given) ≡ 0) × (failures relay (losses_of given) ≡ 0)
+none_of_link (Ok answer) = (refl, refl)
+none_of_link (Err (stop.Refused r)) = (refl, refl)
+none_of_link (Err stop.Disk) = (refl, refl)
+none_of_link (Err stop.Archive) = (refl, refl)
+none_of_link (Err stop.Changed) = (refl, refl)
+none_of_link (Err stop.Memory) = (refl, refl)
 
 rises : (a b n : ℕ) → RoseBy a b n → a ≤ b
 rises a b n h = omega arith
@@ -60,6 +60,7 @@ with_losses tells side r s t d e a b answered (reply.refused x c is same p q) =
       disk_count = p;
       archive_count = q;
       no_link = refl;
+      no_relay = refl;
     }
 with_losses tells side r s t d e a b answered (reply.asked c given is says so count) =
     let n = counts (λ n. RoseBy d e n) (λ n. RoseBy a b n) given count in
@@ -68,38 +69,41 @@ with_losses tells side r s t d e a b answered (reply.asked c given is says so co
       done = λ before. (losses_of given, told.asked c given is says so refl, refl);
       disk_count = n.0;
       archive_count = n.1;
-      no_link = none_of_link given;
+      no_link = (none_of_link given).0;
+      no_relay = (none_of_link given).1;
     }
 
 -- what else was done then
-pub so : {d e a b : ℕ} (one other : List Device → List Device → Type 0)
-    → ((x y : List Device) → one x y → other x y) → Loses d e a b one → Loses d e a b other
+pub so : {d e a b : ℕ} (one other : List Deed → List Deed → Type 0)
+    → ((x y : List Deed) → one x y → other x y) → Loses d e a b one → Loses d e a b other
 so one other f h = record {
   lost = h.lost;
   done = λ before. f before (before ++ h.lost) (h.done before);
   disk_count = h.disk_count;
   archive_count = h.archive_count;
   no_link = h.no_link;
+  no_relay = h.no_relay;
 }
 
 -- nothing was lost
-pub unlost : (d e a b : ℕ) (does : List Device → List Device → Type 0) → RoseBy d e 0 → RoseBy a b 0
-    → ((before : List Device) → does before before) → Loses d e a b does
+pub unlost : (d e a b : ℕ) (does : List Deed → List Deed → Type 0) → RoseBy d e 0 → RoseBy a b 0
+    → ((before : List Deed) → does before before) → Loses d e a b does
 unlost d e a b does p q h = record {
   lost = [];
   done = λ before. subst (λ after. does before after) (sym (append-nil before)) (h before);
   disk_count = p;
   archive_count = q;
   no_link = refl;
+  no_relay = refl;
 }
 
-pub none_lost : (d a : ℕ) (does : List Device → List Device → Type 0)
-    → ((before : List Device) → does before before) → Loses d d a a does
+pub none_lost : (d a : ℕ) (does : List Deed → List Deed → Type 0)
+    → ((before : List Deed) → does before before) → Loses d d a a does
 none_lost d a does h = unlost d d a a does (rose_none d) (rose_none a) h
 
 -- one thing was done after the other
-pub both : {d e f a b c : ℕ} (one other all : List Device → List Device → Type 0)
-    → ((x y z : List Device) → one x y → other y z → all x z)
+pub both : {d e f a b c : ℕ} (one other all : List Deed → List Deed → Type 0)
+    → ((x y z : List Deed) → one x y → other y z → all x z)
     → Loses d e a b one → Loses e f b c other → Loses d f a c all
 both {d} {e} {f} {a} {b} {c} one other all links h k = record {
   lost = h.lost ++ k.lost;
@@ -111,6 +115,7 @@ both {d} {e} {f} {a} {b} {c} one other all links h k = record {
   archive_count = subst (λ n. RoseBy a c n) (sym (failures_on archive h.lost k.lost))
       (rose_more a b c (failures archive h.lost) (failures archive k.lost) h.archive_count k.archive_count);
   no_link = rw (failures_on link h.lost k.lost, h.no_link, k.no_link) refl;
+  no_relay = rw (failures_on relay h.lost k.lost, h.no_relay, k.no_relay) refl;
 }
 
 -- what holds of both results
@@ -161,14 +166,14 @@ none_of_result (Err stop.Archive) (Err r) is ok = absurd (true≢false (sym ok))
 none_of_result (Err stop.Changed) answered is ok = refl
 none_of_result (Err stop.Memory) answered is ok = refl
 
-none_of_told : (tells : Type 0) (side : Side) (r : Request) (s t : Session) (answered : Result Data Refusal) (lost : List Device)
+none_of_told : (tells : Type 0) (side : Side) (r : Request) (s t : Session) (answered : Result Data Refusal) (lost : List Deed)
     → IsTold tells side r s answered t lost → IsOk answered → lost ≡ []
 none_of_told tells side r s t answered lost (told.refused e c is same none) ok = none
 none_of_told tells side r s t answered lost (told.asked c given is says so lost_is) ok =
     lost_is ∙ none_of_result given answered says ok
 
-pub result_unlost : (tells : Type 0) (side : Side) (before after : List Device) (r : Request) (s t : Session) (answered : Result Data Refusal)
+pub result_unlost : (tells : Type 0) (side : Side) (before after : List Deed) (r : Request) (s t : Session) (answered : Result Data Refusal)
     → AnswersOf tells side before r s answered after t → IsOk answered → after ≡ before
 result_unlost tells side before after r s t answered h ok =
-    h.2 ∙ ap (λ (l : List Device). before ++ l) (none_of_told tells side r s t answered h.0 h.1 ok)
+    h.2 ∙ ap (λ (l : List Deed). before ++ l) (none_of_told tells side r s t answered h.0 h.1 ok)
     ∙ append-nil before

@@ -4,6 +4,7 @@ ghost use Rattle.serde_json.specs.Written.{compact_text};
 ghost use Rattle.el_outside.specs.Files.{AllGrow};
 ghost use Rattle.el_model.specs.LedgerCalls.{Asked};
 ghost use Rattle.el_side.specs.Beneath.{beneath, ghosts};
+ghost use Rattle.el_side.specs.Caching.{CachesStand, CachesStay};
 ghost use Rattle.el_side.specs.NodeSteps.{IsSettled};
 ghost use Rattle.el_side.specs.Side.{Side};
 ghost use Rattle.el_replies.specs.Envelopes.{reply_value};
@@ -27,7 +28,7 @@ use el_json::{Answer, Elements, Item, Request};
 use el_model::Ledger;
 use el_outside::Archive;
 use el_sessions::Session;
-use el_side::Holdings;
+use el_side::{Caches, Holdings};
 use std::alloc::Global;
 
 /// How many bytes the replies of a batch may have together before its later requests are refused.
@@ -181,6 +182,7 @@ fn answer_in_time<G: Ledger, A: Archive>(
     ledger: &mut G,
     archive: &mut A,
     holdings: &Holdings,
+    caches: &mut Caches,
     session: &mut Session,
     replies: &mut Gathered,
     request: Request,
@@ -189,7 +191,7 @@ fn answer_in_time<G: Ledger, A: Archive>(
     requires id { IsPrintableId request.id }
     requires end { HasEnd replies.old }
     ensures answered { (side : Side) → IsSettled (ghosts ⟦<G as Ledger>⟧ ⟦<A as Archive>⟧)
-        (beneath ledger.old archive.old) holdings.now side → Loses
+        (beneath ledger.old archive.old) holdings.now caches.old side → Loses
         (G.faults ledger.old) (G.faults ledger.new) (A.faults archive.old) (A.faults archive.new)
         (λ before after. MatchResult result
         (λ _. InTime (AnswersOf A.tells side)
@@ -197,16 +199,17 @@ fn answer_in_time<G: Ledger, A: Archive>(
         (λ _. after ≡ before)) }
     ensures end { OnOk result (HasEnd replies.new) }
     ensures edits { Edits session.old.subs session.new.subs }
-    ensures rows { (chain : Chain) → G.stands ledger.old chain
+    ensures rows { (chain : Chain) → G.stands ledger.old chain → CachesStand caches.old chain chain
         → ReadsWithin (RequestReads chain (G.buckets ledger.old) request)
         (G.reads ledger.old) (G.reads ledger.new) }
+    ensures caches { CachesStay ⟦<G as Ledger>⟧ ledger.old caches.old caches.new }
     ensures disk_more { G.faults ledger.old ≤ G.faults ledger.new }
     ensures archive_more { A.faults archive.old ≤ A.faults archive.new }
     ensures quiet { Asked ⟦<G as Ledger>⟧ ledger.old ledger.new }
     ensures grows { A.tells → AllGrow (A.bytes archive.old) (A.bytes archive.new) }
 {
     let room = make_room(alloc, replies, &request.id)?;
-    let told = answer_request(alloc, ledger, archive, holdings, session, &request)?;
+    let told = answer_request(alloc, ledger, archive, holdings, caches, session, &request)?;
     add_reply(alloc, replies, room, request.id, told)
 }
 
@@ -217,6 +220,7 @@ fn answer_item<G: Ledger, A: Archive>(
     ledger: &mut G,
     archive: &mut A,
     holdings: &Holdings,
+    caches: &mut Caches,
     session: &mut Session,
     replies: &mut Gathered,
     item: Item,
@@ -225,7 +229,7 @@ fn answer_item<G: Ledger, A: Archive>(
     requires printable { HasPrintableId item }
     requires end { HasEnd replies.old }
     ensures answered { (side : Side) → IsSettled (ghosts ⟦<G as Ledger>⟧ ⟦<A as Archive>⟧)
-        (beneath ledger.old archive.old) holdings.now side → Loses
+        (beneath ledger.old archive.old) holdings.now caches.old side → Loses
         (G.faults ledger.old) (G.faults ledger.new) (A.faults archive.old) (A.faults archive.new)
         (λ before after. MatchResult result
         (λ _. Step (AnswersOf A.tells side)
@@ -233,9 +237,10 @@ fn answer_item<G: Ledger, A: Archive>(
         (λ _. after ≡ before)) }
     ensures end { OnOk result (HasEnd replies.new) }
     ensures edits { Edits session.old.subs session.new.subs }
-    ensures rows { (chain : Chain) → G.stands ledger.old chain
+    ensures rows { (chain : Chain) → G.stands ledger.old chain → CachesStand caches.old chain chain
         → ReadsWithin (ItemReads chain (G.buckets ledger.old) item)
         (G.reads ledger.old) (G.reads ledger.new) }
+    ensures caches { CachesStay ⟦<G as Ledger>⟧ ledger.old caches.old caches.new }
     ensures disk_more { G.faults ledger.old ≤ G.faults ledger.new }
     ensures archive_more { A.faults archive.old ≤ A.faults archive.new }
     ensures quiet { Asked ⟦<G as Ledger>⟧ ledger.old ledger.new }
@@ -246,7 +251,9 @@ fn answer_item<G: Ledger, A: Archive>(
             if replies.size > BATCH_LIMIT {
                 refuse(alloc, replies, request.id, Refusal::BatchTooLarge)
             } else {
-                answer_in_time(alloc, ledger, archive, holdings, session, replies, request)
+                answer_in_time(
+                    alloc, ledger, archive, holdings, caches, session, replies, request,
+                )
             }
         }
         Item::Invalid(id) => refuse(alloc, replies, Some(id), Refusal::Invalid),
@@ -261,6 +268,7 @@ pub(crate) fn answer_items<G: Ledger, A: Archive>(
     ledger: &mut G,
     archive: &mut A,
     holdings: &Holdings,
+    caches: &mut Caches,
     session: &mut Session,
     replies: &mut Gathered,
     elements: &mut Elements,
@@ -268,7 +276,7 @@ pub(crate) fn answer_items<G: Ledger, A: Archive>(
     requires live { G.is_live ledger.old }
     requires end { HasEnd replies.old }
     ensures answered { (side : Side) → IsSettled (ghosts ⟦<G as Ledger>⟧ ⟦<A as Archive>⟧)
-        (beneath ledger.old archive.old) holdings.now side → Loses
+        (beneath ledger.old archive.old) holdings.now caches.old side → Loses
         (G.faults ledger.old) (G.faults ledger.new) (A.faults archive.old) (A.faults archive.new)
         (λ before after. MatchResult result
         (λ _. Steps (AnswersOf A.tells side)
@@ -277,16 +285,19 @@ pub(crate) fn answer_items<G: Ledger, A: Archive>(
         elements.old before session.old (replies_of replies.old) after)) }
     ensures end { OnOk result (HasEnd replies.new) }
     ensures edits { Edits session.old.subs session.new.subs }
-    ensures rows { (chain : Chain) → G.stands ledger.old chain
+    ensures rows { (chain : Chain) → G.stands ledger.old chain → CachesStand caches.old chain chain
         → ReadsWithin (ItemsRead chain (G.buckets ledger.old) elements.old)
         (G.reads ledger.old) (G.reads ledger.new) }
+    ensures caches { CachesStay ⟦<G as Ledger>⟧ ledger.old caches.old caches.new }
     ensures disk_more { G.faults ledger.old ≤ G.faults ledger.new }
     ensures archive_more { A.faults archive.old ≤ A.faults archive.new }
     ensures quiet { Asked ⟦<G as Ledger>⟧ ledger.old ledger.new }
     ensures grows { A.tells → AllGrow (A.bytes archive.old) (A.bytes archive.new) }
 {
     while let Some(item) = elements.next(alloc) {
-        answer_item(alloc, ledger, archive, holdings, session, replies, item)?;
+        answer_item(
+            alloc, ledger, archive, holdings, caches, session, replies, item,
+        )?;
     }
     Ok(())
 }

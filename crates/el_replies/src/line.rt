@@ -5,6 +5,7 @@ ghost use Rattle.el_json.specs.Lines.{IsPrintable, IsPrintableId, line_says};
 ghost use Rattle.el_outside.specs.Files.{AllGrow};
 ghost use Rattle.el_model.specs.LedgerCalls.{Asked};
 ghost use Rattle.el_side.specs.Beneath.{beneath, ghosts};
+ghost use Rattle.el_side.specs.Caching.{CachesStand, CachesStay};
 ghost use Rattle.el_side.specs.NodeSteps.{IsSettled};
 ghost use Rattle.el_side.specs.Side.{Side};
 ghost use Rattle.el_replies.specs.Losses.{AnswersOf, Loses};
@@ -27,7 +28,7 @@ use el_json::{Answer, Elements, Envelope, LineFault, Request, read_line};
 use el_model::Ledger;
 use el_outside::Archive;
 use el_sessions::Session;
-use el_side::Holdings;
+use el_side::{Caches, Holdings};
 use std::alloc::Global;
 
 /// What comes of a client's line.
@@ -130,29 +131,31 @@ fn one_reply<G: Ledger, A: Archive>(
     ledger: &mut G,
     archive: &mut A,
     holdings: &Holdings,
+    caches: &mut Caches,
     session: &mut Session,
     request: Request,
 ) -> Result<LineReply, OutOfMemory>
     requires live { G.is_live ledger.old }
     requires printable { IsPrintableId request.id }
     ensures answered { (side : Side) → IsSettled (ghosts ⟦<G as Ledger>⟧ ⟦<A as Archive>⟧)
-        (beneath ledger.old archive.old) holdings.now side → Loses
+        (beneath ledger.old archive.old) holdings.now caches.old side → Loses
         (G.faults ledger.old) (G.faults ledger.new) (A.faults archive.old) (A.faults archive.new)
         (λ before after. MatchResult result
         (λ reply. IsReplyTo (AnswersOf A.tells side)
         (Ok (Envelope.One request)) before session.old after session.new reply)
         (λ _. after ≡ before)) }
     ensures edits { Edits session.old.subs session.new.subs }
-    ensures rows { (chain : Chain) → G.stands ledger.old chain
+    ensures rows { (chain : Chain) → G.stands ledger.old chain → CachesStand caches.old chain chain
         → ReadsWithin (RequestReads chain (G.buckets ledger.old) request)
         (G.reads ledger.old) (G.reads ledger.new) }
+    ensures caches { CachesStay ⟦<G as Ledger>⟧ ledger.old caches.old caches.new }
     ensures disk_more { G.faults ledger.old ≤ G.faults ledger.new }
     ensures archive_more { A.faults archive.old ≤ A.faults archive.new }
     ensures quiet { Asked ⟦<G as Ledger>⟧ ledger.old ledger.new }
     ensures grows { A.tells → AllGrow (A.bytes archive.old) (A.bytes archive.new) }
 {
     let room = room_for(alloc, &request.id)?;
-    let told = answer_request(alloc, ledger, archive, holdings, session, &request)?;
+    let told = answer_request(alloc, ledger, archive, holdings, caches, session, &request)?;
     reply_to_id(alloc, room, request.id, told)
 }
 
@@ -175,12 +178,13 @@ fn batch_reply<G: Ledger, A: Archive>(
     ledger: &mut G,
     archive: &mut A,
     holdings: &Holdings,
+    caches: &mut Caches,
     session: &mut Session,
     elements: Elements,
 ) -> Result<LineReply, OutOfMemory>
     requires live { G.is_live ledger.old }
     ensures answered { (side : Side) → IsSettled (ghosts ⟦<G as Ledger>⟧ ⟦<A as Archive>⟧)
-        (beneath ledger.old archive.old) holdings.now side → Loses
+        (beneath ledger.old archive.old) holdings.now caches.old side → Loses
         (G.faults ledger.old) (G.faults ledger.new) (A.faults archive.old) (A.faults archive.new)
         (λ before after. MatchResult result
         (λ reply. IsReplyTo (AnswersOf A.tells side)
@@ -188,9 +192,10 @@ fn batch_reply<G: Ledger, A: Archive>(
         (λ _. CutSteps (AnswersOf A.tells side)
         elements before session.old no_replies after)) }
     ensures edits { Edits session.old.subs session.new.subs }
-    ensures rows { (chain : Chain) → G.stands ledger.old chain
+    ensures rows { (chain : Chain) → G.stands ledger.old chain → CachesStand caches.old chain chain
         → ReadsWithin (ItemsRead chain (G.buckets ledger.old) elements)
         (G.reads ledger.old) (G.reads ledger.new) }
+    ensures caches { CachesStay ⟦<G as Ledger>⟧ ledger.old caches.old caches.new }
     ensures disk_more { G.faults ledger.old ≤ G.faults ledger.new }
     ensures archive_more { A.faults archive.old ≤ A.faults archive.new }
     ensures quiet { Asked ⟦<G as Ledger>⟧ ledger.old ledger.new }
@@ -203,6 +208,7 @@ fn batch_reply<G: Ledger, A: Archive>(
         ledger,
         archive,
         holdings,
+        caches,
         session,
         &mut replies,
         &mut elements,
@@ -234,13 +240,14 @@ pub fn reply_line<G: Ledger, A: Archive>(
     ledger: &mut G,
     archive: &mut A,
     holdings: &Holdings,
+    caches: &mut Caches,
     session: &mut Session,
     line: &[u8],
 ) -> Result<LineReply, OutOfMemory>
     requires live { G.is_live ledger.old }
     // `files` are the bytes of the block files at some moment before, as the server knows them.
     ensures answered { (side : Side) → IsSettled (ghosts ⟦<G as Ledger>⟧ ⟦<A as Archive>⟧)
-        (beneath ledger.old archive.old) holdings.now side → Loses
+        (beneath ledger.old archive.old) holdings.now caches.old side → Loses
         (G.faults ledger.old) (G.faults ledger.new) (A.faults archive.old) (A.faults archive.new)
         (λ before after. IsLineReply
         (AnswersOf A.tells side)
@@ -248,18 +255,21 @@ pub fn reply_line<G: Ledger, A: Archive>(
     // No subscription is dropped, and new ones come last, whatever the ledger stands for.
     ensures edits { Edits session.old.subs session.new.subs }
     // How many rows are read: at most those of the calls that its requests ask for, each once.
-    ensures rows { (chain : Chain) → G.stands ledger.old chain
+    ensures rows { (chain : Chain) → G.stands ledger.old chain → CachesStand caches.old chain chain
         → ReadsWithin (LineReads chain (G.buckets ledger.old) (line_says line.now))
         (G.reads ledger.old) (G.reads ledger.new) }
+    ensures caches { CachesStay ⟦<G as Ledger>⟧ ledger.old caches.old caches.new }
     ensures disk_more { G.faults ledger.old ≤ G.faults ledger.new }
     ensures archive_more { A.faults archive.old ≤ A.faults archive.new }
     ensures quiet { Asked ⟦<G as Ledger>⟧ ledger.old ledger.new }
     ensures grows { A.tells → AllGrow (A.bytes archive.old) (A.bytes archive.new) }
 {
     match read_line(alloc, line) {
-        Ok(Envelope::One(request)) => one_reply(alloc, ledger, archive, holdings, session, request),
+        Ok(Envelope::One(request)) => one_reply(
+            alloc, ledger, archive, holdings, caches, session, request,
+        ),
         Ok(Envelope::Batch(elements)) => {
-            batch_reply(alloc, ledger, archive, holdings, session, elements)
+            batch_reply(alloc, ledger, archive, holdings, caches, session, elements)
         }
         Err(LineFault::Parse) => fault_reply(alloc, Answer::null(), Refusal::Parse),
         Err(LineFault::Invalid(id)) => fault_reply(alloc, id, Refusal::Invalid),

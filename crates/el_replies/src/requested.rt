@@ -4,6 +4,7 @@ ghost use Rattle.el_outside.specs.Counts.{RoseBy};
 ghost use Rattle.el_outside.specs.Files.{AllGrow};
 ghost use Rattle.el_model.specs.LedgerCalls.{Asked};
 ghost use Rattle.el_side.specs.Beneath.{beneath, ghosts};
+ghost use Rattle.el_side.specs.Caching.{CachesStand, CachesStay};
 ghost use Rattle.el_side.specs.NodeSteps.{IsSettled};
 ghost use Rattle.el_side.specs.Side.{Side};
 ghost use Rattle.el_replies.specs.Requested.{IsAnswered, told_of};
@@ -19,7 +20,7 @@ use el_methods::{Stop, answer};
 use el_model::Ledger;
 use el_outside::Archive;
 use el_sessions::Session;
-use el_side::Holdings;
+use el_side::{Caches, Holdings};
 use std::alloc::Global;
 
 // What the client is told of a call.
@@ -43,12 +44,13 @@ pub fn answer_request<G: Ledger, A: Archive>(
     ledger: &mut G,
     archive: &mut A,
     holdings: &Holdings,
+    caches: &mut Caches,
     session: &mut Session,
     request: &Request,
 ) -> Result<Result<Answer, Refusal>, OutOfMemory>
     requires live { G.is_live ledger.old }
     ensures answered { (side : Side) → IsSettled (ghosts ⟦<G as Ledger>⟧ ⟦<A as Archive>⟧)
-        (beneath ledger.old archive.old) holdings.now side → IfOk result
+        (beneath ledger.old archive.old) holdings.now caches.old side → IfOk result
         (λ told. IsAnswered A.tells side request.now
         session.old (λ n. RoseBy (G.faults ledger.old) (G.faults ledger.new) n)
         (λ n. RoseBy (A.faults archive.old) (A.faults archive.new) n) told session.new) }
@@ -57,9 +59,10 @@ pub fn answer_request<G: Ledger, A: Archive>(
         × RoseBy (A.faults archive.old) (A.faults archive.new) 0) }
     ensures edits { Edits session.old.subs session.new.subs }
     ensures printable { IfOk result IsPrintableAnswer }
-    ensures rows { (chain : Chain) → G.stands ledger.old chain
+    ensures rows { (chain : Chain) → G.stands ledger.old chain → CachesStand caches.old chain chain
         → ReadsWithin (RequestReads chain (G.buckets ledger.old) request.now)
         (G.reads ledger.old) (G.reads ledger.new) }
+    ensures caches { CachesStay ⟦<G as Ledger>⟧ ledger.old caches.old caches.new }
     ensures disk_more { G.faults ledger.old ≤ G.faults ledger.new }
     ensures archive_more { A.faults archive.old ≤ A.faults archive.new }
     ensures quiet { Asked ⟦<G as Ledger>⟧ ledger.old ledger.new }
@@ -69,7 +72,7 @@ pub fn answer_request<G: Ledger, A: Archive>(
         Ok(call) => call,
         Err(refusal) => return Ok(Err(refusal)),
     };
-    let given = answer(alloc, ledger, archive, holdings, session, call);
+    let given = answer(alloc, ledger, archive, holdings, caches, session, call);
     match told_of(given) {
         Some(told) => Ok(told),
         None => Err(OutOfMemory),

@@ -120,7 +120,7 @@ fn an_index_of_an_earlier_life(rt: HostRuntime) -> Result<(), Fail> {
 }
 
 // How many bytes each file of the main network's index of its first block has.
-const SIZES: [usize; 9] = [76, 112, 68, 262_144, 21, 0, 52, 262_144, 12];
+const SIZES: [usize; 9] = [80, 116, 84, 524_288, 33, 0, 64, 524_288, 24];
 
 #[test]
 fn files_of_the_first_block(rt: HostRuntime) -> Result<(), Fail> {
@@ -135,9 +135,13 @@ fn files_of_the_first_block(rt: HostRuntime) -> Result<(), Fail> {
         files,
         steps.as_slice(),
     )?;
-    for (file, size) in (0u32..).zip(SIZES) {
+    for (file, size) in (20u32..).zip(SIZES) {
         assert!(rt; life.disk.bytes(file).len() == size, "{file}");
     }
+    for file in 0..10 {
+        assert!(rt; life.disk.bytes(file).is_empty(), "{file}");
+    }
+    assert!(rt; life.disk.bytes(30) == [2].as_slice());
     Ok(())
 }
 

@@ -3,9 +3,9 @@ ghost use Rattle.std.specs.Prelude.{◌≡◌, [], length};
 ghost use Rattle.el_outside.specs.Counts.{HasCause};
 ghost use Rattle.el_row_formats.specs.Tables.{tables_of};
 
-use el_base::GhostCount;
+use el_base::{GhostCount, OutOfMemory};
 use el_outside::DiskFailed;
-use el_row_formats::Table;
+use el_row_formats::{MIN_HEAD_BITS, Table};
 use el_rows::{CommitFault, Rows, Sealed};
 use el_vec_rows::VecRows;
 use std::alloc::Global;
@@ -22,15 +22,15 @@ pub(crate) struct FailingRows {
 }
 
 impl FailingRows {
-    /// No rows, of which no call fails.
-    pub(crate) fn new(alloc: Global) -> FailingRows {
-        FailingRows {
-            rows: VecRows::new(alloc),
+    /// The rows before the first block, with 65,536 heads of each kind, of which no call fails.
+    pub(crate) fn new(alloc: Global) -> Result<FailingRows, OutOfMemory> {
+        Ok(FailingRows {
+            rows: VecRows::new(alloc, MIN_HEAD_BITS)?,
             reads: GhostCount::new(),
             failing: Vec::new(alloc),
             calls: 0,
             faults: 0,
-        }
+        })
     }
 
     /// Counts anew. These calls fail from now on.
@@ -68,13 +68,15 @@ impl Rows for FailingRows {
 
     ghost counts = { λ s t. length (tables_of s.rows.rows t) };
 
+    ghost heads = { λ s. 0 };
+
     ghost is_live = { λ s. Unit {0} };
 
     ghost moment = { λ s. 0 };
 
     ghost Left = { Unit {0} };
 
-    ghost shows = { λ c lists. ⊥ };
+    ghost shows = { λ c heads lists. ⊥ };
 
     ghost left_since = { λ s t c. ⊥ };
 

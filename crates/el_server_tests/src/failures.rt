@@ -25,7 +25,7 @@ pub(crate) fn live<W: Threads + Sync>(
     steps: &[Step<'_>],
 ) -> Result<Vec<u8>, Fail> {
     let failing = Vec::from_slice(alloc, failing)?;
-    let mut kept = replace(rows, FailingRows::new(alloc));
+    let mut kept = replace(rows, FailingRows::new(alloc)?);
     kept.fail_at(failing);
     let (shown, ledger) = play(rt, alloc, index_of(alloc, kept)?, LIMITS, file, steps)?;
     *rows = ledger.into_rows();
@@ -201,7 +201,7 @@ fn is_told<W: Threads + Sync>(
 fn each_read_of_a_request(rt: HostRuntime) -> Result<(), Fail> {
     let alloc = rt.alloc();
     let file = coins_file(alloc)?;
-    let mut rows = FailingRows::new(alloc);
+    let mut rows = FailingRows::new(alloc)?;
     live(&rt, alloc, &mut rows, &[], file.as_slice(), BEGINS)?;
     let before = calls_of(&rt, alloc, &mut rows, file.as_slice(), BEGINS)?;
     for request in REQUESTS.iter() {
@@ -396,7 +396,7 @@ fn each_call_of_a_line(rt: HostRuntime) -> Result<(), Fail> {
     let alloc = rt.alloc();
     let file = coins_file(alloc)?;
     for stop in STOPS.iter() {
-        let mut rows = FailingRows::new(alloc);
+        let mut rows = FailingRows::new(alloc)?;
         assert!(rt;
             stops_anywhere(&rt, alloc, &mut rows, file.as_slice(), stop)?,
             "{}{}",

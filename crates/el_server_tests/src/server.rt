@@ -22,7 +22,7 @@ use el_mempool::PoolLimits;
 use el_model::Ledger;
 use el_outside::{Arrival, NoPace, Peer, Why};
 use el_pool::Pool;
-use el_side::Holdings;
+use el_side::{Caches, Holdings};
 use el_sync::StepFault;
 use el_tx::{Outpoint, Tx, block_hash, encode_header, encode_tx, txid};
 use itoa::Buffer;
@@ -344,7 +344,7 @@ fn begun(alloc: Global, ledger: Tested, limits: PoolLimits, file: &[u8]) -> Resu
         pool: Pool::new(alloc, limits),
     };
     Ok(Run {
-        server: Server::new(alloc, ledger, holdings),
+        server: Server::new(alloc, ledger, holdings, Caches::new(alloc)),
         archive,
         last: 0,
         shown: Vec::new(alloc),
@@ -393,7 +393,7 @@ fn played<W: Threads + Sync>(
     file: &[u8],
     steps: &[Step<'_>],
 ) -> Result<(Vec<u8>, Option<u32>), Fail> {
-    let ledger = index_of(alloc, FailingRows::new(alloc))?;
+    let ledger = index_of(alloc, FailingRows::new(alloc)?)?;
     let (shown, ledger) = play(rt, alloc, ledger, LIMITS, file, steps)?;
     Ok((shown, ledger.height()))
 }

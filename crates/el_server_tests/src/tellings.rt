@@ -347,7 +347,7 @@ fn each_call_of_a_telling(rt: HostRuntime) -> Result<(), Fail> {
     let alloc = rt.alloc();
     let file = coins_file(alloc)?;
     for telling in TELLINGS.iter() {
-        let mut rows = FailingRows::new(alloc);
+        let mut rows = FailingRows::new(alloc)?;
         assert!(rt;
             is_told(&rt, alloc, &mut rows, file.as_slice(), telling)?,
             "{}",
@@ -451,7 +451,7 @@ fn each_read_of_a_subscription(rt: HostRuntime) -> Result<(), Fail> {
     let alloc = rt.alloc();
     let file = coins_file(alloc)?;
     for session in SESSIONS.iter() {
-        let mut rows = FailingRows::new(alloc);
+        let mut rows = FailingRows::new(alloc)?;
         assert!(rt;
             stays(&rt, alloc, &mut rows, file.as_slice(), session)?,
             "{}{}",

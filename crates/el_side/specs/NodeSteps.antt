@@ -1,7 +1,7 @@
 -- A step of the node's work, over a ledger and block files of which only the types are known.
-use Rattle.std.specs.Prelude.{◌≡◌, false, List, [], ⊤}
+use Rattle.std.specs.Prelude.{◌≡◌, false, List, []}
 use Rattle.el_base.specs.declared.hash.Hash32.{Hash32}
-use Rattle.el_outside.specs.Devices.{Device}
+use Rattle.el_side.specs.Deeds.{Deed}
 use Rattle.el_outside.specs.Files.{AllGrow}
 use Rattle.el_chain.specs.declared.node.Node.{Node}
 use Rattle.el_chain.specs.Chains.{Chain}
@@ -10,40 +10,37 @@ use Rattle.el_model.specs.LedgerCalls.{Moved}
 use Rattle.el_lines.specs.declared.node_answer.NodeAnswer.{NodeAnswer}
 use Rattle.el_status.specs.Statuses.{status}
 use Rattle.el_status.specs.Untouched.{LooksSame, is_among}
+use Rattle.el_side.specs.declared.caches.Caches.{Caches}
 use Rattle.el_side.specs.declared.holdings.Holdings.{Holdings}
 use Rattle.el_side.specs.Beneath.{Beneath, Ghosts, Lost}
+use Rattle.el_side.specs.Caching.{CachesStand}
 use Rattle.el_side.specs.Side.{Side, IsSure}
-
--- What is held beside the headers, the magic and the unconfirmed set stands for the side, and for the start
--- of its last tip line: there is nothing.
-abbrev pub StandsBeside : Holdings → Side → Chain → Type 0
-StandsBeside holdings side start = ⊤
 
 -- The set stands for the transactions that are kept, over the chain that was there when the node's last tip
 -- line began, its start: that is the side's chain where the line left nothing to do. Of a side that is unsure
--- the set may hold anything.
-pub record SetStands (holdings : Holdings) (side : Side) (start : Chain) : Type 0 where
+-- the set may hold anything. So with what was computed once.
+pub record SetStands (holdings : Holdings) (caches : Caches) (side : Side) (start : Chain) : Type 0 where
   pub stood : IsSure side → StandsFor holdings.pool.entries start side.kept
-  pub beside : IsSure side → StandsBeside holdings side start
+  pub computed : IsSure side → CachesStand caches start side.chain
   pub still : side.ahead ≡ [] → start ≡ side.chain
   pub limits : holdings.pool.limits ≡ side.limits
 
 -- the ledger stands for the side's chain, where that is sure, the set for what is kept, and the block files
 -- have all that the side knows of them
-pub record IsAt {G A : Type 0} (of : Ghosts G A) (now : Beneath G A) (holdings : Holdings) (side : Side)
-    (start : Chain) : Type 0 where
+pub record IsAt {G A : Type 0} (of : Ghosts G A) (now : Beneath G A) (holdings : Holdings) (caches : Caches)
+    (side : Side) (start : Chain) : Type 0 where
   pub stood : IsSure side → of.ledger.stands now.ledger side.chain
-  pub set : SetStands holdings side start
+  pub set : SetStands holdings caches side start
   pub told : of.files.tells → AllGrow side.files (of.files.bytes now.files)
 
--- A client is answered from these: where the side is sure, the ledger stands for its chain, and the set for
--- what is kept over it; the found headers are the side's, and the block files have all that the side knows of
--- them.
-pub record IsSettled {G A : Type 0} (of : Ghosts G A) (now : Beneath G A) (holdings : Holdings) (side : Side)
-    : Type 0 where
+-- A client is answered from these: where the side is sure, the ledger stands for its chain, the set for what
+-- is kept over it, and what was computed once is of it; the found headers are the side's, and the block files
+-- have all that the side knows of them.
+pub record IsSettled {G A : Type 0} (of : Ghosts G A) (now : Beneath G A) (holdings : Holdings)
+    (caches : Caches) (side : Side) : Type 0 where
   pub stood : IsSure side → of.ledger.stands now.ledger side.chain
   pub set : IsSure side → StandsFor holdings.pool.entries side.chain side.kept
-  pub beside : IsSure side → StandsBeside holdings side side.chain
+  pub computed : IsSure side → CachesStand caches side.chain side.chain
   pub found : holdings.tree ≡ side.found
   pub told : of.files.tells → AllGrow side.files (of.files.bytes now.files)
 
@@ -59,7 +56,7 @@ pub record Touches (side : Side) (start : Chain) (next : Side) (next_start : Cha
 
 -- What a step leaves: the ledger and the block files as they were before it and are after it, what the node
 -- is answered, the headers that are then found, the blocks that are then ahead, the script hashes that it
--- touched by moving the chain and in the unconfirmed set, and what is then held.
+-- touched by moving the chain and in the unconfirmed set, what is then held, and what was computed once.
 pub record StepLeft (G A : Type 0) : Type 0 where
   pub was : Beneath G A
   pub now : Beneath G A
@@ -69,12 +66,13 @@ pub record StepLeft (G A : Type 0) : Type 0 where
   pub moved : List Hash32
   pub changed : List Hash32
   pub holdings : Holdings
+  pub caches : Caches
 
 -- A step that left this led on from the side, by what `leads` says of the node's answer, of the devices'
 -- failures and of the next side. A sure side stays sure, and no other becomes so.
-pub record Leads {G A : Type 0} (of : Ghosts G A) (leads : NodeAnswer → List Device → Side → Type 0)
+pub record Leads {G A : Type 0} (of : Ghosts G A) (leads : NodeAnswer → List Deed → Side → Type 0)
     (side : Side) (start : Chain) (left : StepLeft G A) : Type 0 where
-  pub losses : List Device
+  pub losses : List Deed
   pub next : Side
   pub led : leads left.answer losses next
   pub sure_is : next.sure ≡ side.sure
@@ -82,7 +80,7 @@ pub record Leads {G A : Type 0} (of : Ghosts G A) (leads : NodeAnswer → List D
   pub found_is : left.found ≡ next.found
   pub ahead_is : left.ahead ≡ next.ahead
   pub next_start : Chain
-  pub set : SetStands left.holdings next next_start
+  pub set : SetStands left.holdings left.caches next next_start
   pub touches : IsSure side → Touches side start next next_start left.moved left.changed
   pub went : IsSure side → Moved of.ledger left.was.ledger left.now.ledger side.chain next.chain
   pub told : of.files.tells → AllGrow next.files (of.files.bytes left.now.files)

@@ -1,9 +1,10 @@
--- The side of the world that the node leads, and what each of its lines does to it. The device of each failed
--- call stands among `losses`. `of_files` is what the type of the block files says of them: whether they tell
--- what they hold, what that is, and which bytes their reads gave.
+-- The side of the world that the node leads, and what each of its lines does to it. Each failed call stands
+-- among `losses`, with its device. `of_files` is what the type of the block files says of them: whether they
+-- tell what they hold, what that is, and which bytes their reads gave.
 use Rattle.std.specs.Prelude.{◌≡◌, ◌⊎◌, ◌≤◌, ◌<◌, ◌&&◌, ℕ, Bool, true, false, not, if◌then◌else◌, List, [], ◌∷◌, ◌++◌, drop, Option, Some, None, IfSome}
 use Rattle.el_base.specs.declared.hash.Hash32.{Hash32}
-use Rattle.el_outside.specs.Devices.{Device, archive}
+use Rattle.el_side.specs.Deeds as deed
+use Rattle.el_side.specs.Deeds.{Deed, archive}
 use Rattle.el_outside.specs.Files.{AllGrow}
 use Rattle.el_outside.specs.declared.archive.Archive as block_files
 use Rattle.el_tx.specs.declared.types.Tx.{Tx}
@@ -83,7 +84,7 @@ found_after known (Some n) = added known n
 
 -- A line that tells a place of the block files.
 pub data Looks {A : Type 0} (of_files : block_files.Ghosts A) (side : Side) (file at : ℕ)
-    (answer : NodeAnswer) (losses : List Device) (next : Side) : Type 0 where
+    (answer : NodeAnswer) (losses : List Deed) (next : Side) : Type 0 where
   -- what stands at the place joins what was found
   looks : (found : Option Node) (files : ℕ → List ℕ) → LooksUp of_files side file at found files
       → answer ≡ found_answer side.found found
@@ -92,7 +93,7 @@ pub data Looks {A : Type 0} (of_files : block_files.Ghosts A) (side : Side) (fil
   -- the block files failed
   fails : (files : ℕ → List ℕ) → (of_files.tells → AllGrow side.files files)
       → answer ≡ say.Refused refusal.Archive
-      → next ≡ record side { files = files } → losses ≡ archive ∷ []
+      → next ≡ record side { files = files } → losses ≡ deed.lost archive ∷ []
       → Looks of_files side file at answer losses next
 
 -- the transactions that are kept once a move left these blocks to put in: with the last move of a line they
@@ -111,7 +112,7 @@ pub data MayTellMove (rest : List Node) (answer : NodeAnswer) : List Node → Ty
 -- One move of a tip line, where so many blocks are to be taken back and these are to be put in. The node is
 -- answered, and the side is then `next`.
 pub data Moving {A : Type 0} (of_files : block_files.Ghosts A) (side : Side) (back : ℕ) (rest : List Node)
-    (answer : NodeAnswer) (losses : List Device) (next : Side) : Type 0 where
+    (answer : NodeAnswer) (losses : List Deed) (next : Side) : Type 0 where
   -- it is done, and the node is told where the chain ends
   commits : (files : ℕ → List ℕ) (blocks : Chain) → (of_files.tells → AllGrow side.files files)
       → Moves (StoodAt of_files side.files files) side.chain (plan_of back rest) blocks
@@ -133,7 +134,7 @@ pub data Moving {A : Type 0} (of_files : block_files.Ghosts A) (side : Side) (ba
   fails : (files : ℕ → List ℕ) → (of_files.tells → AllGrow side.files files)
       → answer ≡ say.Refused refusal.Archive
       → next ≡ record side { kept = sift side.chain side.kept; ahead = []; files = files }
-      → losses ≡ archive ∷ [] → Moving of_files side back rest answer losses next
+      → losses ≡ deed.lost archive ∷ [] → Moving of_files side back rest answer losses next
   -- the side is unsure
   unsure : side.sure ≡ false → (left : List Node) (files : ℕ → List ℕ)
       → (of_files.tells → AllGrow side.files files) → MayTellMove rest answer left
@@ -142,7 +143,7 @@ pub data Moving {A : Type 0} (of_files : block_files.Ghosts A) (side : Side) (ba
 
 -- A tip line of a side that is unsure: so many blocks are said to be taken back, and these are to be put in.
 pub data GoesUnsure {A : Type 0} (of_files : block_files.Ghosts A) (side : Side) (back : ℕ)
-    (rest : List Node) (answer : NodeAnswer) (losses : List Device) (next : Side) : Type 0 where
+    (rest : List Node) (answer : NodeAnswer) (losses : List Deed) (next : Side) : Type 0 where
   deep : max_back < back → answer ≡ say.Refused (refusal.Deep back) → next ≡ side → losses ≡ []
       → GoesUnsure of_files side back rest answer losses next
   there : (hash : Option Hash32) (height : Option ℕ) → back ≡ 0 → rest ≡ []
@@ -153,7 +154,7 @@ pub data GoesUnsure {A : Type 0} (of_files : block_files.Ghosts A) (side : Side)
 
 -- A tip line along the path to its block, up to its first move.
 pub data GoesAlong {A : Type 0} (of_files : block_files.Ghosts A) (side : Side) (path : List Node)
-    (answer : NodeAnswer) (losses : List Device) (next : Side) : Type 0 where
+    (answer : NodeAnswer) (losses : List Deed) (next : Side) : Type 0 where
   -- too many blocks would be taken back
   deep : max_back < back_of side.chain path
       → answer ≡ say.Refused (refusal.Deep (back_of side.chain path)) → next ≡ side → losses ≡ []
@@ -172,7 +173,7 @@ pub data GoesAlong {A : Type 0} (of_files : block_files.Ghosts A) (side : Side) 
 
 -- A tip line, up to its first move.
 pub data Tips {A : Type 0} (of_files : block_files.Ghosts A) (side : Side) (h : Hash32) (answer : NodeAnswer)
-    (losses : List Device) (next : Side) : Type 0 where
+    (losses : List Deed) (next : Side) : Type 0 where
   unknown : is_known side.found h ≡ false → answer ≡ say.Refused (refusal.Unknown h) → next ≡ side
       → losses ≡ [] → Tips of_files side h answer losses next
   unconnected : is_known side.found h ≡ true → ((path : List Node) → IsPath side.found h path → ⊥)
@@ -187,7 +188,7 @@ pub data MayTellTx (answer : NodeAnswer) : Type 0 where
   refused : (id : Hash32) (e : PoolFault) → pool_refused id e ≡ Some answer → MayTellTx answer
 
 -- A line that tells an unconfirmed transaction by its bytes.
-pub data Adds (side : Side) (bytes : List ℕ) (answer : NodeAnswer) (losses : List Device) (next : Side)
+pub data Adds (side : Side) (bytes : List ℕ) (answer : NodeAnswer) (losses : List Deed) (next : Side)
     : Type 0 where
   -- it joins the kept ones, as the last
   joins : (t : Tx) → Encodes bytes t → tx_refusal side.limits side.chain side.kept t ≡ None
@@ -205,7 +206,7 @@ pub data Adds (side : Side) (bytes : List ℕ) (answer : NodeAnswer) (losses : L
       → Adds side bytes answer losses next
 
 -- A line that takes the transaction with that txid out of the kept ones, with those that spend it.
-pub data Drops (side : Side) (id : Hash32) (answer : NodeAnswer) (losses : List Device) (next : Side)
+pub data Drops (side : Side) (id : Hash32) (answer : NodeAnswer) (losses : List Deed) (next : Side)
     : Type 0 where
   goes : is_kept id side.kept ≡ true → answer ≡ say.Gone id
       → next ≡ record side { kept = sift side.chain (other_than id side.kept) } → losses ≡ []
@@ -222,11 +223,11 @@ IsSaid bytes (Some said) = ReadsNodeLine bytes said
 IsSaid bytes None = (said : NodeLine) → ReadsNodeLine bytes said → ⊥
 
 -- the line is refused for this, and does nothing
-abbrev pub Refuses : Side → NodeRefusal → NodeAnswer → List Device → Side → Type 0
+abbrev pub Refuses : Side → NodeRefusal → NodeAnswer → List Deed → Side → Type 0
 Refuses side why answer losses next = (answer ≡ say.Refused why) × (next ≡ side) × (losses ≡ [])
 
 -- A line of the node that says this.
-abbrev pub Orders : {A : Type 0} → block_files.Ghosts A → Side → Option NodeLine → NodeAnswer → List Device
+abbrev pub Orders : {A : Type 0} → block_files.Ghosts A → Side → Option NodeLine → NodeAnswer → List Deed
     → Side → Type 0
 Orders of_files side (Some (block file at)) answer losses next =
     Looks of_files side file at answer losses next
@@ -241,7 +242,7 @@ Orders of_files side (Some (dropped id)) answer losses next =
 Orders of_files side None answer losses next = Refuses side refusal.Line answer losses next
 
 -- What is met in the node's bytes: a line, or one that is too long and refused.
-abbrev pub OrdersLine : {A : Type 0} → block_files.Ghosts A → Side → LineEvent → NodeAnswer → List Device
+abbrev pub OrdersLine : {A : Type 0} → block_files.Ghosts A → Side → LineEvent → NodeAnswer → List Deed
     → Side → Type 0
 OrdersLine of_files side (line bytes) answer losses next =
     (said : Option NodeLine) × IsSaid bytes said × Orders of_files side said answer losses next

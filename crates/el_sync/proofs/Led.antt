@@ -4,8 +4,8 @@ use Rattle.std.proofs.Common.{◌≡◌, ◌≢◌, inl, Bool, false, ℕ, ◌�
 use Rattle.std.specs.Result.{IfOk, IfErr}
 use Rattle.el_base.specs.declared.hash.Hash32.{Hash32}
 use Rattle.el_outside.specs.Counts.{CountsOnly, RoseBy}
-use Rattle.el_outside.specs.Devices as device
-use Rattle.el_outside.specs.Devices.{Device, link, archive, disk, failures, faults}
+use Rattle.el_side.specs.Deeds as deed
+use Rattle.el_side.specs.Deeds.{Device, Deed, link, archive, disk, relay, failures, faults}
 use Rattle.el_outside.specs.Files.{AllGrow}
 use Rattle.el_outside.specs.Seen.{WasSeen}
 use Rattle.el_outside.specs.declared.archive.Archive as archives
@@ -30,6 +30,7 @@ use Rattle.el_side.specs.Side.{Side, IsSure, GoesAlong, Looks, Moving, Orders, O
 use Rattle.el_model.proofs.LedgerMoves.{LeavesOwn, asked_then, moved_then}
 use Rattle.el_tx.specs.declared.types.Tx.{Tx}
 use Rattle.el_mempool.specs.Standing.{AreChanged, PoolState, StandsFor}
+use Rattle.el_side.specs.declared.caches.Caches.{Caches}
 use Rattle.el_side.specs.declared.holdings.Holdings.{Holdings}
 use Rattle.el_status.proofs.Sides.{looks_self}
 use Rattle.el_status.proofs.Stays.{status_stays}
@@ -41,7 +42,7 @@ use Rattle.el_sync.specs.within.Parts.{IsPathMove, Looked, SaysRefusal, StandsAf
 use Rattle.el_model.specs.declared.fault.QueryFault.{QueryFault}
 use Rattle.el_model.specs.declared.fault.QueryFault.TheVariants as fault
 use Rattle.el_sync.specs.declared.moving.Step.{Step}
-use Rattle.el_outside.proofs.Devices.{rose_still, rose_of}
+use Rattle.el_side.proofs.Deeds.{rose_still, rose_of}
 use Rattle.el_outside.proofs.Traces.{all_grow_none, all_grow_more}
 
 -- ---- block files that only grow
@@ -66,8 +67,8 @@ pub not_disk : (e : MoveFault) (answer : NodeAnswer) → SaysRefusal e answer �
 not_disk e answer says is = let h = rw is at says in h
 
 -- the set of a side that has left nothing to do stands over its chain
-pub stands_there : (holdings : Holdings) (side : Side) (start : Chain) → IsSure side → SetStands holdings side start → side.ahead ≡ [] → StandsFor holdings.pool.entries side.chain side.kept
-stands_there holdings side start sure set still = rw (set.still still) at (set.stood sure)
+pub stands_there : (holdings : Holdings) (caches : Caches) (side : Side) (start : Chain) → IsSure side → SetStands holdings caches side start → side.ahead ≡ [] → StandsFor holdings.pool.entries side.chain side.kept
+stands_there holdings caches side start sure set still = rw (set.still still) at (set.stood sure)
 
 -- where chain and kept ones stay, nothing is touched
 pub touches_none : (side next : Side) (start : Chain) (moved changed : List Hash32) → next.chain ≡ side.chain → next.kept ≡ side.kept → Touches side start next start moved changed
@@ -86,18 +87,18 @@ touches_kept side start kept moved changed is change = record {
 }
 
 -- what a line says, after which other transactions are kept
-pub said_after : {A : Type 0} {of_files : archives.Ghosts A} (pool : PoolState) (side : Side) (changed : List Hash32) (answer : NodeAnswer) (bytes : List ℕ) (said : NodeLine) (losses : List Device) → ReadsNodeLine bytes said
+pub said_after : {A : Type 0} {of_files : archives.Ghosts A} (pool : PoolState) (side : Side) (changed : List Hash32) (answer : NodeAnswer) (bytes : List ℕ) (said : NodeLine) (losses : List Deed) → ReadsNodeLine bytes said
     → StandsAfter pool side changed (Orders of_files side (Some said) answer losses) → StandsAfter pool side changed (OrdersLine of_files side (line bytes) answer losses)
 said_after pool side changed answer bytes said losses reads after = record { kept = after.kept; done = (Some said, reads, after.done); stood = after.stood; changes = after.changes }
 
 -- the first move along a path of a side that is unsure
-pub unsure_moves : {A : Type 0} (of_files : archives.Ghosts A) (side next : Side) (path rest : List Node) (back same : ℕ) (answer : NodeAnswer) (losses : List Device) → side.sure ≡ false → back ≤ max_back
+pub unsure_moves : {A : Type 0} (of_files : archives.Ghosts A) (side next : Side) (path rest : List Node) (back same : ℕ) (answer : NodeAnswer) (losses : List Deed) → side.sure ≡ false → back ≤ max_back
     → rest ≡ drop same path → IsMoving back rest → Moving of_files side back rest answer losses next → GoesAlong of_files side path answer losses next
 unsure_moves of_files side next path rest back same answer losses un few is moving move =
     side_of.unsure un back same (side_of.moves few (rw is at moving) (rw is at move))
 
 -- the first move along a path, where the path and the chain were compared
-pub along_moves : {A : Type 0} (of_files : archives.Ghosts A) (side next : Side) (path rest : List Node) (back : ℕ) (answer : NodeAnswer) (losses : List Device) → back ≤ max_back
+pub along_moves : {A : Type 0} (of_files : archives.Ghosts A) (side next : Side) (path rest : List Node) (back : ℕ) (answer : NodeAnswer) (losses : List Deed) → back ≤ max_back
     → back ≡ back_of side.chain path → rest ≡ rest_of side.chain path → IsMoving back rest → Moving of_files side back rest answer losses next → GoesAlong of_files side path answer losses next
 along_moves of_files side next path rest back answer losses few is rest_is moving move =
     side_of.moves (rw (← is) few) (rw (is, rest_is) at moving) (rw (is, rest_is) at move)
@@ -106,7 +107,7 @@ module _ {G A : Type 0} (of : Ghosts G A) where
   -- ---- steps that are done
 
   -- a line that is only answered
-  pub answered : (side : Side) (start : Chain) (leads : NodeAnswer → List Device → Side → Type 0) (left : StepLeft G A) → IsAt of left.was left.holdings side start → side.ahead ≡ [] → leads left.answer [] side
+  pub answered : (side : Side) (start : Chain) (leads : NodeAnswer → List Deed → Side → Type 0) (left : StepLeft G A) → IsAt of left.was left.holdings left.caches side start → side.ahead ≡ [] → leads left.answer [] side
       → left.found ≡ side.found → left.ahead ≡ [] → (of.files.tells → AllGrow (of.files.bytes left.was.files) (of.files.bytes left.now.files))
       → (IsSure side → Moved of.ledger left.was.ledger left.now.ledger side.chain side.chain) → of.files.faults left.now.files ≡ of.files.faults left.was.files → of.ledger.faults left.now.ledger ≡ of.ledger.faults left.was.ledger
       → Leads of leads side start left
@@ -123,11 +124,11 @@ module _ {G A : Type 0} (of : Ghosts G A) where
     touches = λ sure. touches_none side side start left.moved left.changed refl refl;
     went = went;
     told = λ t. all_grow_more side.files (of.files.bytes left.was.files) (of.files.bytes left.now.files) (at.told t) (grows t);
-    rose = λ of_link. rose_of of_link _ _ _ _ [] refl (rose_still _ _ files_same) (rose_still _ _ disk_same);
+    rose = λ of_link of_relay. rose_of of_link of_relay _ _ _ _ [] refl refl (rose_still _ _ files_same) (rose_still _ _ disk_same);
   }
 
   -- one of a side that is unsure, after which the set may hold anything
-  pub unsure_leads : (side : Side) (start : Chain) (holdings : Holdings) (leads : NodeAnswer → List Device → Side → Type 0) (left : StepLeft G A) → side.sure ≡ false → IsAt of left.was holdings side start
+  pub unsure_leads : (side : Side) (start : Chain) (holdings : Holdings) (leads : NodeAnswer → List Deed → Side → Type 0) (left : StepLeft G A) → side.sure ≡ false → IsAt of left.was holdings left.caches side start
       → side.ahead ≡ [] → leads left.answer [] side → left.found ≡ side.found → left.ahead ≡ [] → left.holdings.pool.limits ≡ holdings.pool.limits → left.now.files ≡ left.was.files
       → of.ledger.faults left.now.ledger ≡ of.ledger.faults left.was.ledger → Leads of leads side start left
   unsure_leads side start holdings leads left un at still led same none limits files_same disk_same = record {
@@ -139,16 +140,16 @@ module _ {G A : Type 0} (of : Ghosts G A) where
     ahead_is = none ∙ sym still;
     magic_is = refl;
     next_start = start;
-    set = record { stood = λ sure. absurd (not_both side sure un); beside = λ sure. tt; still = at.set.still; limits = limits ∙ at.set.limits };
+    set = record { stood = λ sure. absurd (not_both side sure un); computed = λ sure. absurd (not_both side sure un); still = at.set.still; limits = limits ∙ at.set.limits };
     touches = λ sure. absurd (not_both side sure un);
     went = λ sure. absurd (not_both side sure un);
     told = rw files_same at.told;
-    rose = λ of_link. rose_of of_link _ _ _ _ [] refl (rose_still _ _ (ap of.files.faults files_same)) (rose_still _ _ disk_same);
+    rose = λ of_link of_relay. rose_of of_link of_relay _ _ _ _ [] refl refl (rose_still _ _ (ap of.files.faults files_same)) (rose_still _ _ disk_same);
   }
 
   -- one of a sure side, after which other transactions are kept
-  pub kept_leads : (side : Side) (start : Chain) (holdings : Holdings) (leads : NodeAnswer → List Device → Side → Type 0) (answer : NodeAnswer) (changed : List Hash32) (left : StepLeft G A)
-      → IsSure side → IsAt of left.was holdings side start → side.ahead ≡ [] → StandsAfter left.holdings.pool side changed (leads answer []) → left.answer ≡ answer → left.found ≡ side.found → left.ahead ≡ []
+  pub kept_leads : (side : Side) (start : Chain) (holdings : Holdings) (leads : NodeAnswer → List Deed → Side → Type 0) (answer : NodeAnswer) (changed : List Hash32) (left : StepLeft G A)
+      → IsSure side → IsAt of left.was holdings left.caches side start → side.ahead ≡ [] → StandsAfter left.holdings.pool side changed (leads answer []) → left.answer ≡ answer → left.found ≡ side.found → left.ahead ≡ []
       → left.changed ≡ changed → left.holdings.pool.limits ≡ holdings.pool.limits → left.now.files ≡ left.was.files
       → Moved of.ledger left.was.ledger left.now.ledger side.chain side.chain → of.ledger.faults left.now.ledger ≡ of.ledger.faults left.was.ledger
       → Leads of leads side start left
@@ -161,16 +162,16 @@ module _ {G A : Type 0} (of : Ghosts G A) where
     ahead_is = none ∙ sym still;
     magic_is = refl;
     next_start = side.chain;
-    set = record { stood = λ s. after.stood; beside = λ s. tt; still = λ e. refl; limits = limits ∙ at.set.limits };
+    set = record { stood = λ s. after.stood; computed = λ s. rw (at.set.still still) at (at.set.computed s); still = λ e. refl; limits = limits ∙ at.set.limits };
     touches = λ s. touches_kept side start after.kept left.moved left.changed (at.set.still still) (rw tells after.changes);
     went = λ s. went;
     told = rw files_same at.told;
-    rose = λ of_link. rose_of of_link _ _ _ _ [] refl (rose_still _ _ (ap of.files.faults files_same)) (rose_still _ _ disk_same);
+    rose = λ of_link of_relay. rose_of of_link of_relay _ _ _ _ [] refl refl (rose_still _ _ (ap of.files.faults files_same)) (rose_still _ _ disk_same);
   }
 
   -- what a step leads to it leads to in other words, also where the found headers have another name
-  pub leads_in : (side : Side) (start : Chain) (P Q : NodeAnswer → List Device → Side → Type 0) (left : StepLeft G A) (tree : List Node) → left.found ≡ tree
-      → ((losses : List Device) (next : Side) → P left.answer losses next → Q left.answer losses next) → Leads of P side start left → Leads of Q side start (record left { found = tree })
+  pub leads_in : (side : Side) (start : Chain) (P Q : NodeAnswer → List Deed → Side → Type 0) (left : StepLeft G A) (tree : List Node) → left.found ≡ tree
+      → ((losses : List Deed) (next : Side) → P left.answer losses next → Q left.answer losses next) → Leads of P side start left → Leads of Q side start (record left { found = tree })
   leads_in side start P Q left tree same says l = record {
     losses = l.losses;
     next = l.next;
@@ -187,12 +188,12 @@ module _ {G A : Type 0} (of : Ghosts G A) where
     rose = l.rose;
   }
 
-  pub leads_as : (side : Side) (start : Chain) (P Q : NodeAnswer → List Device → Side → Type 0) (left : StepLeft G A) → ((losses : List Device) (next : Side) → P left.answer losses next → Q left.answer losses next)
+  pub leads_as : (side : Side) (start : Chain) (P Q : NodeAnswer → List Deed → Side → Type 0) (left : StepLeft G A) → ((losses : List Deed) (next : Side) → P left.answer losses next → Q left.answer losses next)
       → Leads of P side start left → Leads of Q side start left
   leads_as side start P Q left says l = leads_in side start P Q left left.found refl says l
 
   -- a step after the ledger was asked
-  pub leads_on : (side : Side) (start : Chain) (P : NodeAnswer → List Device → Side → Type 0) (left : StepLeft G A) (mid : G) → LeavesOwn of.ledger → of.ledger.is_live left.was.ledger → Asked of.ledger left.was.ledger mid
+  pub leads_on : (side : Side) (start : Chain) (P : NodeAnswer → List Deed → Side → Type 0) (left : StepLeft G A) (mid : G) → LeavesOwn of.ledger → of.ledger.is_live left.was.ledger → Asked of.ledger left.was.ledger mid
       → of.ledger.faults mid ≡ of.ledger.faults left.was.ledger → (IsSure side → of.ledger.stands left.was.ledger side.chain)
       → Leads of P side start (record left { was = record left.was { ledger = mid } }) → Leads of P side start left
   leads_on side start P left mid own live asked same stood l = record {
@@ -223,9 +224,9 @@ module _ {G A : Type 0} (of : Ghosts G A) where
     flight = before refl;
     crash = moved.crash;
     stood = λ m. moved;
-    losses = device.disk ∷ [];
+    losses = deed.lost deed.disk ∷ [];
     fails = by_disk refl refl;
-    rose = λ of_link. rose_of of_link _ _ _ _ (device.disk ∷ []) refl none (counts.counted refl);
+    rose = λ of_link of_relay. rose_of of_link of_relay _ _ _ _ (deed.lost deed.disk ∷ []) refl refl none (counts.counted refl);
   }
   still_there (Err fault.Memory) was now chain is_move moved none counts = record {
     next = chain;
@@ -234,7 +235,7 @@ module _ {G A : Type 0} (of : Ghosts G A) where
     stood = λ m. moved;
     losses = [];
     fails = by_memory refl refl;
-    rose = λ of_link. rose_of of_link _ _ _ _ [] refl none (rose_still _ _ (counts.others_uncounted (λ e. let bad = e in cc)));
+    rose = λ of_link of_relay. rose_of of_link of_relay _ _ _ _ [] refl refl none (rose_still _ _ (counts.others_uncounted (λ e. let bad = e in cc)));
   }
 
   -- no memory was found, and no device of the ledger failed
@@ -330,7 +331,7 @@ module _ {A : Type 0} (of_files : archives.Ghosts A) where
       → (of_files.tells → AllGrow side.files (of_files.bytes a)) → (of_files.tells → AllGrow (of_files.bytes a) (of_files.bytes b)) → tree ≡ holdings.tree → answer ≡ say.Refused refusal.Archive
       → RoseBy (of_files.faults a) (of_files.faults b) 1 → Looked of_files a b side file at answer tree
   place_failed a b holdings side file at answer tree from told grows same says rose = record {
-    losses = archive ∷ [];
+    losses = deed.lost archive ∷ [];
     looks = side_of.fails (of_files.bytes b) (λ t. all_grow_more side.files (of_files.bytes a) (of_files.bytes b) (told t) (grows t)) says
         (ap (λ (found : List Node). record side { found = found; files = of_files.bytes b }) (same ∙ sym from.found)) refl;
     rose = rose;
@@ -340,7 +341,7 @@ module _ {A : Type 0} (of_files : archives.Ghosts A) where
 
 module _ {G A : Type 0} (of : Ghosts G A) where
   -- a line that tells a place
-  pub block_leads : (side : Side) (start : Chain) (holdings : Holdings) (bytes : List ℕ) (file at : ℕ) (answer : NodeAnswer) (left : StepLeft G A) → IsAt of left.was holdings side start → side.ahead ≡ []
+  pub block_leads : (side : Side) (start : Chain) (holdings : Holdings) (bytes : List ℕ) (file at : ℕ) (answer : NodeAnswer) (left : StepLeft G A) → IsAt of left.was holdings left.caches side start → side.ahead ≡ []
       → left.holdings ≡ record holdings { tree = left.found } → ReadsNodeLine bytes (line_said.block file at) → Looked of.files left.was.files left.now.files side file at answer left.found → left.answer ≡ answer → left.ahead ≡ []
       → (IsSure side → Moved of.ledger left.was.ledger left.now.ledger side.chain side.chain) → of.ledger.faults left.now.ledger ≡ of.ledger.faults left.was.ledger → Leads of (OrdersLine of.files side (line bytes)) side start left
   block_leads side start holdings bytes file at answer left here still same reads looked says none went disk_same = record {
@@ -352,18 +353,19 @@ module _ {G A : Type 0} (of : Ghosts G A) where
     found_is = refl;
     ahead_is = none ∙ sym still;
     next_start = start;
-    set = rw same (record { stood = here.set.stood; beside = λ sure. tt; still = here.set.still; limits = here.set.limits });
+    set = rw same (record { stood = here.set.stood; computed = here.set.computed; still = here.set.still; limits = here.set.limits });
     touches = λ sure. touches_none side (record side { found = left.found; files = of.files.bytes left.now.files }) start left.moved left.changed refl refl;
     went = went;
     told = λ t. all_grow_none (of.files.bytes left.now.files);
-    rose = λ of_link. rose_of of_link _ _ _ _ looked.losses (archive_alone link looked.looks (λ e. cc)) looked.rose
+    rose = λ of_link of_relay. rose_of of_link of_relay _ _ _ _ looked.losses (archive_alone link looked.looks (λ e. cc)) (archive_alone relay looked.looks (λ e. cc)) looked.rose
         (rw (archive_alone disk looked.looks (λ e. cc)) (rose_still _ _ disk_same));
   }
     where
-      archive_alone : (device : Device) {losses : List Device} {next : Side} → Looks of.files side file at answer losses next → (device ≡ archive → ⊥) → failures device losses ≡ 0
+      archive_alone : (device : Device) {losses : List Deed} {next : Side} → Looks of.files side file at answer losses next → (device ≡ archive → ⊥) → failures device losses ≡ 0
       archive_alone device (side_of.looks found files up says' is lost) other = ap (failures device) lost
       archive_alone link (side_of.fails files g says' is lost) other = ap (failures link) lost
       archive_alone disk (side_of.fails files g says' is lost) other = ap (failures disk) lost
+      archive_alone relay (side_of.fails files g says' is lost) other = ap (failures relay) lost
       archive_alone archive (side_of.fails files g says' is lost) other = absurd (other refl)
 
 -- ---- what every step keeps

@@ -1,14 +1,14 @@
 -- Moves, and the sift after them.
 use Rattle.std.proofs.lemmas.List.{take_all}
 use Rattle.std.specs.Prelude.{if◌then◌else◌}
-use Rattle.std.proofs.Common.{◌≡◌, ◌≢◌, ◌⊎◌, inl, inr, ℕ, ◌-◌, ◌<◌, ◌≤◌, ◌==◌, ◌&&◌, ◌||◌, arith, Bool, true, false, List, [], ◌∷◌, ◌++◌, length, take, Option, Some, Result, Ok, Err, refl, sym, ap, ◌∙◌, eqb-true}
+use Rattle.std.proofs.Common.{◌≡◌, ◌≢◌, ◌⊎◌, inl, inr, ℕ, ◌-◌, ◌<◌, ◌≤◌, ◌==◌, ◌&&◌, ◌||◌, arith, Bool, true, false, List, [], ◌∷◌, ◌++◌, length, take, Option, Some, Result, Ok, Err, refl, sym, ap, subst, ◌∙◌, eqb-true}
 use Rattle.std.specs.Result.{IfErr}
 use Rattle.el_base.specs.declared.hash.Hash32.{Hash32}
 use Rattle.el_outside.specs.Counts.{RoseBy}
-use Rattle.el_outside.specs.Devices as device
-use Rattle.el_outside.specs.Devices.{Device, archive}
+use Rattle.el_side.specs.Deeds as deed
+use Rattle.el_side.specs.Deeds.{Deed, archive}
 use Rattle.el_outside.specs.Files.{AllGrow}
-use Rattle.el_outside.proofs.Devices.{all_rose_on, rose_of, rose_still}
+use Rattle.el_side.proofs.Deeds.{all_rose_on, rose_of, rose_still}
 use Rattle.el_outside.proofs.Moments.{joined, weaker}
 use Rattle.el_outside.proofs.Traces.{all_grow_none, all_grow_more}
 use Rattle.el_chain.specs.declared.node.Node.{Node}
@@ -39,7 +39,10 @@ use Rattle.el_status.proofs.Sides.{looks_joined, looks_self, move_keeps}
 use Rattle.el_status.proofs.Stays.{status_stays}
 use Rattle.el_status.specs.Statuses.{status}
 use Rattle.el_tx.specs.declared.types.Tx.{Tx}
+use Rattle.el_side.specs.declared.caches.Caches.{Caches}
 use Rattle.el_side.specs.declared.holdings.Holdings.{Holdings}
+use Rattle.el_side.specs.Caching.{CachesStand}
+use Rattle.el_side.proofs.Cached.{none_back, put_in}
 use Rattle.el_side.specs.Beneath.{Beneath, Ghosts, Lost, failed_beneath}
 use Rattle.el_side.specs.NodeSteps.{IsAt, Leads, SetStands, Touches}
 use Rattle.el_sync.specs.Steps.{FailsBy, NodeStep, RoseWith, StopsAt, by_disk, by_memory, in_sift, left_by, untold}
@@ -83,13 +86,14 @@ abbrev start_after : List Node → Chain → Chain → Chain
 start_after [] chain start = chain
 start_after (n ∷ ns) chain start = start
 
-set_moved : (l : List Node) (chain start : Chain) (files : ℕ → List ℕ) (holdings : Holdings) (pool_new : PoolState) (side : Side) → SetStands holdings side start → pool_new.limits ≡ holdings.pool.limits
-    → (l ≡ [] → StandsFor pool_new.entries chain (sift chain side.kept)) → ((n : Node) (ns : List Node) → l ≡ n ∷ ns → pool_new ≡ holdings.pool)
-    → SetStands (record holdings { pool = pool_new }) (record side { chain = chain; kept = kept_after l chain side.kept; ahead = l; files = files }) (start_after l chain start)
-set_moved [] chain start files holdings pool_new side set limits sifts same =
-    record { stood = λ sure. sifts refl; beside = λ sure. tt; still = λ e. refl; limits = limits ∙ set.limits }
-set_moved (n ∷ ns) chain start files holdings pool_new side set limits sifts same =
-    record { stood = rw (same n ns refl) set.stood; beside = λ sure. tt; still = λ e. absurd (let bad = e in cc); limits = limits ∙ set.limits }
+set_moved : (l : List Node) (chain start : Chain) (files : ℕ → List ℕ) (holdings : Holdings) (pool_new : PoolState) (caches caches_new : Caches) (side : Side) → SetStands holdings caches side start
+    → pool_new.limits ≡ holdings.pool.limits → (l ≡ [] → StandsFor pool_new.entries chain (sift chain side.kept) × CachesStand caches_new chain chain)
+    → ((n : Node) (ns : List Node) → l ≡ n ∷ ns → (pool_new ≡ holdings.pool) × CachesStand caches_new start chain)
+    → SetStands (record holdings { pool = pool_new }) caches_new (record side { chain = chain; kept = kept_after l chain side.kept; ahead = l; files = files }) (start_after l chain start)
+set_moved [] chain start files holdings pool_new caches caches_new side set limits sifts same =
+    record { stood = λ sure. (sifts refl).0; computed = λ sure. (sifts refl).1; still = λ e. refl; limits = limits ∙ set.limits }
+set_moved (n ∷ ns) chain start files holdings pool_new caches caches_new side set limits sifts same =
+    record { stood = rw (same n ns refl).0 set.stood; computed = λ sure. (same n ns refl).1; still = λ e. absurd (let bad = e in cc); limits = limits ∙ set.limits }
 
 touches_moved : (l : List Node) (chain start : Chain) (files : ℕ → List ℕ) (side : Side) (moved changed : List Hash32) → KeepsOthers side.chain chain moved
     → (l ≡ [] → AreChanged start side.kept chain (sift chain side.kept) changed)
@@ -104,24 +108,24 @@ touches_moved (n ∷ ns) chain start files side moved changed keeps change = rec
   looks = λ s out apart looks. looks_joined start side.chain chain s.0 looks (keeps s out);
 }
 
-set_refused : (later : Bool) (start : Chain) (files : ℕ → List ℕ) (holdings : Holdings) (pool_new : PoolState) (side : Side) → IsSure side → SetStands holdings side start → (later ≡ false → side.ahead ≡ []) → pool_new.limits ≡ holdings.pool.limits
+set_refused : (later : Bool) (start : Chain) (files : ℕ → List ℕ) (holdings : Holdings) (pool_new : PoolState) (caches caches_new : Caches) (side : Side) → IsSure side → SetStands holdings caches side start → (later ≡ false → side.ahead ≡ []) → pool_new.limits ≡ holdings.pool.limits
     → (later ≡ true → StandsFor pool_new.entries side.chain (sift side.chain side.kept)) → (later ≡ false → pool_new ≡ holdings.pool)
-    → SetStands (record holdings { pool = pool_new }) (record side { kept = sift side.chain side.kept; ahead = []; files = files }) side.chain
-set_refused true start files holdings pool_new side sure set still limits sifts same =
-    record { stood = λ s. sifts refl; beside = λ s. tt; still = λ e. refl; limits = limits ∙ set.limits }
-set_refused false start files holdings pool_new side sure set still limits sifts same =
-    let there = stands_there holdings side start sure set (still refl) in
-    record { stood = λ s. rw (same refl, there.sifted) there; beside = λ s. tt; still = λ e. refl; limits = limits ∙ set.limits }
+    → CachesStand caches_new side.chain side.chain → SetStands (record holdings { pool = pool_new }) caches_new (record side { kept = sift side.chain side.kept; ahead = []; files = files }) side.chain
+set_refused true start files holdings pool_new caches caches_new side sure set still limits sifts same stand =
+    record { stood = λ s. sifts refl; computed = λ s. stand; still = λ e. refl; limits = limits ∙ set.limits }
+set_refused false start files holdings pool_new caches caches_new side sure set still limits sifts same stand =
+    let there = stands_there holdings caches side start sure set (still refl) in
+    record { stood = λ s. rw (same refl, there.sifted) there; computed = λ s. stand; still = λ e. refl; limits = limits ∙ set.limits }
 
-touches_refused : (later : Bool) (start : Chain) (files : ℕ → List ℕ) (holdings : Holdings) (side : Side) (moved changed : List Hash32) → IsSure side → SetStands holdings side start → (later ≡ false → side.ahead ≡ [])
+touches_refused : (later : Bool) (start : Chain) (files : ℕ → List ℕ) (holdings : Holdings) (caches : Caches) (side : Side) (moved changed : List Hash32) → IsSure side → SetStands holdings caches side start → (later ≡ false → side.ahead ≡ [])
     → (later ≡ true → AreChanged start side.kept side.chain (sift side.chain side.kept) changed)
     → Touches side start (record side { kept = sift side.chain side.kept; ahead = []; files = files }) side.chain moved changed
-touches_refused true start files holdings side moved changed sure set still change = record {
+touches_refused true start files holdings caches side moved changed sure set still change = record {
   status_stays = λ s out apart looks. status_stays start side.chain side.kept (sift side.chain side.kept) changed s looks (change refl) apart;
   looks = λ s out apart looks. looks_self side.chain s.0;
 }
-touches_refused false start files holdings side moved changed sure set still change =
-    let there = stands_there holdings side start sure set (still refl) in
+touches_refused false start files holdings caches side moved changed sure set still change =
+    let there = stands_there holdings caches side start sure set (still refl) in
     record {
       status_stays = λ s out apart looks.
           ap (λ (kept : List Tx). status side.chain kept s.0) there.sifted ∙ ap (λ (c : Chain). status c side.kept s.0) (sym (set.still (still refl)));
@@ -169,7 +173,7 @@ module _ {G A : Type 0} (of : Ghosts G A) where
   stops_first r e was now chain later P is s =
       rw is (record { next = s.next; flight = s.flight; crash = s.crash; stood = s.stood; losses = s.losses; fails = by s.fails; rose = s.rose })
     where
-      by : {next : Chain} {losses : List Device} → FailsBy false chain next e losses → FailsBy later chain next e losses
+      by : {next : Chain} {losses : List Deed} → FailsBy false chain next e losses → FailsBy later chain next e losses
       by (by_disk d l) = by_disk d l
       by (by_memory d l) = by_memory d l
       by (untold no_later d l n) = absurd (let bad = no_later in cc)
@@ -200,11 +204,11 @@ module _ {G A : Type 0} (of : Ghosts G A) where
     tried = made moved.0 (rw is at (moves_weaker (StoodAt of.files (of.files.bytes was.files) (of.files.bytes now.files)) (StoodAt of.files side.files (of.files.bytes now.files)) side.chain (record { back = back; forward = forward }) moved.0 (stood_since was.files now.files side told) moved.1)) (rw is at moved.3) yes_moved refl (rw (← tip_is (shorter back side.chain ++ moved.0) moved.2, ← height_is (shorter back side.chain ++ moved.0) moved.2) answer_is) refl;
     grows = λ t. all_grow_more side.files (of.files.bytes was.files) (of.files.bytes now.files) (told t) (grows t);
     moved = record { stood = moved.2; crash = moved.4 };
-    rose = λ of_link. rose_of of_link _ _ _ _ [] refl (rose_still _ _ files_same) (rose_still _ _ disk_same);
+    rose = λ of_link of_relay. rose_of of_link of_relay _ _ _ _ [] refl refl (rose_still _ _ files_same) (rose_still _ _ disk_same);
   }
 
   -- one that is refused
-  refused_tries : (was now : Beneath G A) (side : Side) (back : ℕ) (rest : List Node) (m : Made) (losses : List Device)
+  refused_tries : (was now : Beneath G A) (side : Side) (back : ℕ) (rest : List Node) (m : Made) (losses : List Deed)
       → (of.files.tells → AllGrow side.files (of.files.bytes was.files)) → (of.files.tells → AllGrow (of.files.bytes was.files) (of.files.bytes now.files)) → Moved of.ledger was.ledger now.ledger side.chain side.chain
       → Tried (StoodAt of.files side.files (of.files.bytes now.files)) side back rest m.moved m.answer m.touched losses side.chain
       → Lost of was now losses
@@ -226,17 +230,17 @@ module _ {G A : Type 0} (of : Ghosts G A) where
   not_made was now side back rest forward stop.DiskFailed m told grows moved why is count still disk_same none says apart = absurd says
   not_made was now side back rest forward stop.Memory m told grows moved why is count still disk_same none says apart = absurd says
   not_made was now side back rest forward stop.ArchiveFailed m told grows moved why is count still disk_same none says apart =
-      refused_tries was now side back rest m (archive ∷ []) told grows moved (failed none refl says apart refl)
-      (λ of_link. rose_of of_link _ _ _ _ (archive ∷ []) refl (count refl) (rose_still _ _ disk_same))
+      refused_tries was now side back rest m (deed.lost archive ∷ []) told grows moved (failed none refl says apart refl)
+      (λ of_link of_relay. rose_of of_link of_relay _ _ _ _ (deed.lost archive ∷ []) refl refl (count refl) (rose_still _ _ disk_same))
   not_made was now side back rest forward (stop.Changed w f) m told grows moved why is count still disk_same none says apart =
       refused_tries was now side back rest m [] told grows moved (refused (stop.Changed w f) (rw is at (refused_weaker (StoodAt of.files (of.files.bytes was.files) (of.files.bytes now.files)) (StoodAt of.files side.files (of.files.bytes now.files)) side.chain (record { back = back; forward = forward }) (stop.Changed w f) (stood_since was.files now.files side told) why)) none refl says apart refl)
-      (λ of_link. rose_of of_link _ _ _ _ [] refl (rose_still _ _ (still (λ e. let bad = e in cc))) (rose_still _ _ disk_same))
+      (λ of_link of_relay. rose_of of_link of_relay _ _ _ _ [] refl refl (rose_still _ _ (still (λ e. let bad = e in cc))) (rose_still _ _ disk_same))
   not_made was now side back rest forward (stop.BadBlock h f) m told grows moved why is count still disk_same none says apart =
       refused_tries was now side back rest m [] told grows moved (refused (stop.BadBlock h f) (rw is at (refused_weaker (StoodAt of.files (of.files.bytes was.files) (of.files.bytes now.files)) (StoodAt of.files side.files (of.files.bytes now.files)) side.chain (record { back = back; forward = forward }) (stop.BadBlock h f) (stood_since was.files now.files side told) why)) none refl says apart refl)
-      (λ of_link. rose_of of_link _ _ _ _ [] refl (rose_still _ _ (still (λ e. let bad = e in cc))) (rose_still _ _ disk_same))
+      (λ of_link of_relay. rose_of of_link of_relay _ _ _ _ [] refl refl (rose_still _ _ (still (λ e. let bad = e in cc))) (rose_still _ _ disk_same))
   not_made was now side back rest forward (stop.Refused h f) m told grows moved why is count still disk_same none says apart =
       refused_tries was now side back rest m [] told grows moved (refused (stop.Refused h f) (rw is at (refused_weaker (StoodAt of.files (of.files.bytes was.files) (of.files.bytes now.files)) (StoodAt of.files side.files (of.files.bytes now.files)) side.chain (record { back = back; forward = forward }) (stop.Refused h f) (stood_since was.files now.files side told) why)) none refl says apart refl)
-      (λ of_link. rose_of of_link _ _ _ _ [] refl (rose_still _ _ (still (λ e. let bad = e in cc))) (rose_still _ _ disk_same))
+      (λ of_link of_relay. rose_of of_link of_relay _ _ _ _ [] refl refl (rose_still _ _ (still (λ e. let bad = e in cc))) (rose_still _ _ disk_same))
 
   -- the ledger's device failed in a move, or no memory was found to tell of its refusal
   pub broke : {T : Type 0} (r : Result T QueryFault) (was now : Beneath G A) (chain : Chain) (back : ℕ) (rest forward : List Node) (e : QueryFault) → r ≡ Err e → forward ≡ take max_forward rest
@@ -254,9 +258,9 @@ module _ {G A : Type 0} (of : Ghosts G A) where
         flight = in_move (plan_of back rest) refl (rw front at (flight_weaker (StoodAt of.files (of.files.bytes was.files) (of.files.bytes now.files)) (StoodBy of.files (of.files.bytes now.files)) chain (record { back = back; forward = forward }) flight.0 (stood_by was.files now.files) flight.1));
         crash = flight.2;
         stood = λ m. absurd (let bad = m in cc);
-        losses = device.disk ∷ [];
+        losses = deed.lost deed.disk ∷ [];
         fails = by_disk refl refl;
-        rose = λ of_link. rose_of of_link _ _ _ _ (device.disk ∷ []) refl f.archive_rose (f.disk_rose refl);
+        rose = λ of_link of_relay. rose_of of_link of_relay _ _ _ _ (deed.lost deed.disk ∷ []) refl refl f.archive_rose (f.disk_rose refl);
       })
 
   -- ---- the sift
@@ -276,7 +280,7 @@ module _ {G A : Type 0} (of : Ghosts G A) where
   tells_word was now rest e m files_same disk_same says none = record {
     losses = [];
     says = of_ledger (rw none (side_of.refused e says)) refl;
-    rose = λ of_link. rose_of of_link _ _ _ _ [] refl (rose_still _ _ files_same) (rose_still _ _ disk_same);
+    rose = λ of_link of_relay. rose_of of_link of_relay _ _ _ _ [] refl refl (rose_still _ _ files_same) (rose_still _ _ disk_same);
   }
 
   pub tells_refusal : (was now : Beneath G A) (rest : List Node) (e : MoveFault) (m : Made) → (e ≡ stop.ArchiveFailed → RoseBy (of.files.faults was.files) (of.files.faults now.files) 1)
@@ -285,28 +289,28 @@ module _ {G A : Type 0} (of : Ghosts G A) where
   tells_refusal was now rest stop.DiskFailed m count still disk_same says none = absurd says
   tells_refusal was now rest stop.Memory m count still disk_same says none = absurd says
   tells_refusal was now rest stop.ArchiveFailed m count still disk_same says none = record {
-    losses = archive ∷ [];
+    losses = deed.lost archive ∷ [];
     says = files_failed says none refl;
-    rose = λ of_link. rose_of of_link _ _ _ _ (archive ∷ []) refl (count refl) (rose_still _ _ disk_same);
+    rose = λ of_link of_relay. rose_of of_link of_relay _ _ _ _ (deed.lost archive ∷ []) refl refl (count refl) (rose_still _ _ disk_same);
   }
   tells_refusal was now rest (stop.Changed w f) m count still disk_same says none = tells_word was now rest (stop.Changed w f) m (still (λ e. let bad = e in cc)) disk_same says none
   tells_refusal was now rest (stop.BadBlock h f) m count still disk_same says none = tells_word was now rest (stop.BadBlock h f) m (still (λ e. let bad = e in cc)) disk_same says none
   tells_refusal was now rest (stop.Refused h f) m count still disk_same says none = tells_word was now rest (stop.Refused h f) m (still (λ e. let bad = e in cc)) disk_same says none
 
   -- a move of a side that is unsure
-  pub unsure_settled : (was now : Beneath G A) (mid : G) (side : Side) (start : Chain) (back : ℕ) (rest : List Node) (holdings : Holdings) (pool_new : PoolState) (m : Made) (changed : List Hash32) → side.sure ≡ false
-      → IsAt of was holdings side start → MoveKeeps of was (record now { ledger = mid }) rest m → pool_new.limits ≡ holdings.pool.limits → of.ledger.faults now.ledger ≡ of.ledger.faults mid
-      → Leads of (Moving of.files side back rest) side start (left_by was now (record { answer = m.answer; left = m.left; moved = m.touched; changed = changed }) side.found (record holdings { pool = pool_new }))
-  unsure_settled was now mid side start back rest holdings pool_new m changed un at k limits disk_same = by k.tells.says
+  pub unsure_settled : (was now : Beneath G A) (mid : G) (side : Side) (start : Chain) (back : ℕ) (rest : List Node) (holdings : Holdings) (pool_new : PoolState) (caches caches_new : Caches) (m : Made) (changed : List Hash32) → side.sure ≡ false
+      → IsAt of was holdings caches side start → MoveKeeps of was (record now { ledger = mid }) rest m → pool_new.limits ≡ holdings.pool.limits → of.ledger.faults now.ledger ≡ of.ledger.faults mid
+      → Leads of (Moving of.files side back rest) side start (left_by was now (record { answer = m.answer; left = m.left; moved = m.touched; changed = changed }) side.found (record holdings { pool = pool_new }) caches_new)
+  unsure_settled was now mid side start back rest holdings pool_new caches caches_new m changed un at k limits disk_same = by k.tells.says
     where
       rose_on : Lost of was now k.tells.losses
-      rose_on of_link = rw disk_same (k.tells.rose of_link)
+      rose_on of_link of_relay = rw disk_same (k.tells.rose of_link of_relay)
 
       grown : of.files.tells → AllGrow side.files (of.files.bytes now.files)
       grown t = all_grow_more side.files (of.files.bytes was.files) (of.files.bytes now.files) (at.told t) (k.keeps t)
 
       by : SaysMove rest m k.tells.losses
-          → Leads of (Moving of.files side back rest) side start (left_by was now (record { answer = m.answer; left = m.left; moved = m.touched; changed = changed }) side.found (record holdings { pool = pool_new }))
+          → Leads of (Moving of.files side back rest) side start (left_by was now (record { answer = m.answer; left = m.left; moved = m.touched; changed = changed }) side.found (record holdings { pool = pool_new }) caches_new)
       by (of_ledger may lost) = record {
         losses = k.tells.losses;
         next = record side { ahead = m.left; files = of.files.bytes now.files };
@@ -316,7 +320,7 @@ module _ {G A : Type 0} (of : Ghosts G A) where
         ahead_is = refl;
         magic_is = refl;
         next_start = side.chain;
-        set = record { stood = λ sure. absurd (not_both side sure un); beside = λ sure. tt; still = λ e. refl; limits = limits ∙ at.set.limits };
+        set = record { stood = λ sure. absurd (not_both side sure un); computed = λ sure. absurd (not_both side sure un); still = λ e. refl; limits = limits ∙ at.set.limits };
         touches = λ sure. absurd (not_both side sure un);
         went = λ sure. absurd (not_both side sure un);
         told = λ t. all_grow_none (of.files.bytes now.files);
@@ -331,7 +335,7 @@ module _ {G A : Type 0} (of : Ghosts G A) where
         ahead_is = none;
         magic_is = refl;
         next_start = side.chain;
-        set = record { stood = λ sure. absurd (not_both side sure un); beside = λ sure. tt; still = λ e. refl; limits = limits ∙ at.set.limits };
+        set = record { stood = λ sure. absurd (not_both side sure un); computed = λ sure. absurd (not_both side sure un); still = λ e. refl; limits = limits ∙ at.set.limits };
         touches = λ sure. absurd (not_both side sure un);
         went = λ sure. absurd (not_both side sure un);
         told = λ t. all_grow_none (of.files.bytes now.files);
@@ -339,25 +343,37 @@ module _ {G A : Type 0} (of : Ghosts G A) where
       }
 
   -- the set was sifted, or a later move is to do it
-  pub settled : (was now : Beneath G A) (mid : G) (side : Side) (start : Chain) (back : ℕ) (rest : List Node) (holdings : Holdings) (pool_new : PoolState) (m : Made) (changed : List Hash32) (later ends : Bool) → LeavesOwn of.ledger → of.ledger.is_live mid
-      → IsSure side → IsAt of was holdings side start → (later ≡ false → side.ahead ≡ []) → Tries of was (record now { ledger = mid }) side back rest m → MoveKeeps of was (record now { ledger = mid }) rest m
+  pub settled : (was now : Beneath G A) (mid : G) (side : Side) (start : Chain) (back : ℕ) (rest : List Node) (holdings : Holdings) (pool_new : PoolState) (caches caches_mid caches_new : Caches) (m : Made) (changed : List Hash32) (later ends : Bool) → LeavesOwn of.ledger → of.ledger.is_live mid
+      → IsSure side → IsAt of was holdings caches side start → (later ≡ false → side.ahead ≡ []) → Tries of was (record now { ledger = mid }) side back rest m → MoveKeeps of was (record now { ledger = mid }) rest m
       → ends ≡ ((length m.left == 0) && (m.moved || later))
       → ((first chain : Chain) → StandsFor holdings.pool.entries first side.kept → of.ledger.stands mid chain → ends ≡ true → StandsFor pool_new.entries chain (sift chain side.kept)
       × AreChanged first side.kept chain (sift chain side.kept) changed)
       → (ends ≡ false → pool_new ≡ holdings.pool) → pool_new.limits ≡ holdings.pool.limits → Asked of.ledger mid now.ledger → of.ledger.faults now.ledger ≡ of.ledger.faults mid
-      → Leads of (Moving of.files side back rest) side start (left_by was now (record { answer = m.answer; left = m.left; moved = m.touched; changed = changed }) side.found (record holdings { pool = pool_new }))
-  settled was now mid side start back rest holdings pool_new m changed later ends own live sure at still t k is sifts same limits asked disk_same = by t.tried t.moved t.rose
+      → CachesStand caches_mid start (shorter (if m.moved then back else 0) side.chain)
+      → ((first chain : Chain) → CachesStand caches_mid first chain → of.ledger.stands mid chain → ends ≡ true → CachesStand caches_new chain chain)
+      → (ends ≡ false → caches_new ≡ caches_mid)
+      → Leads of (Moving of.files side back rest) side start (left_by was now (record { answer = m.answer; left = m.left; moved = m.touched; changed = changed }) side.found (record holdings { pool = pool_new }) caches_new)
+  settled was now mid side start back rest holdings pool_new caches caches_mid caches_new m changed later ends own live sure at still t k is sifts same limits asked disk_same taken follows stays = by t.tried t.moved t.rose
     where
-      rose_on : (losses : List Device) → Lost of was (record now { ledger = mid }) losses
+      rose_on : (losses : List Deed) → Lost of was (record now { ledger = mid }) losses
           → Lost of was now losses
-      rose_on losses rose of_link = rw disk_same (rose of_link)
+      rose_on losses rose of_link of_relay = rw disk_same (rose of_link of_relay)
 
-      by : {losses : List Device} {chain : Chain} → Tried (StoodAt of.files side.files (of.files.bytes now.files)) side back rest m.moved m.answer m.touched losses chain → Moved of.ledger was.ledger mid side.chain chain
+      -- where no move was made, the caches are of the chain: they have followed it, or the line began there
+      unmoved : m.moved ≡ false → CachesStand caches_mid start side.chain
+      unmoved no_moved = subst (λ (c : Chain). CachesStand caches_mid start c) (none_back side.chain) (rw no_moved at taken)
+
+      stand_on : (b : Bool) → later ≡ b → ends ≡ later → m.moved ≡ false → of.ledger.stands mid side.chain → CachesStand caches_new side.chain side.chain
+      stand_on true is_later ended no_moved stood = follows start side.chain (unmoved no_moved) stood (ended ∙ is_later)
+      stand_on false is_first ended no_moved stood = rw (stays (ended ∙ is_first)) (rw (at.set.still (still is_first)) at (unmoved no_moved))
+
+      by : {losses : List Deed} {chain : Chain} → Tried (StoodAt of.files side.files (of.files.bytes now.files)) side back rest m.moved m.answer m.touched losses chain → Moved of.ledger was.ledger mid side.chain chain
           → Lost of was (record now { ledger = mid }) losses
-          → Leads of (Moving of.files side back rest) side start (left_by was now (record { answer = m.answer; left = m.left; moved = m.touched; changed = changed }) side.found (record holdings { pool = pool_new }))
+          → Leads of (Moving of.files side back rest) side start (left_by was now (record { answer = m.answer; left = m.left; moved = m.touched; changed = changed }) side.found (record holdings { pool = pool_new }) caches_new)
       by {losses} {chain} (made blocks moves touched yes_moved chain_is answer_is lost) moved rose =
           let left_is : m.left ≡ left_of rest = k.left ∙ rw yes_moved refl in
           let stood : of.ledger.stands mid (shorter back side.chain ++ blocks) = rw chain_is at moved.stood in
+          let there : CachesStand caches_mid start (shorter back side.chain ++ blocks) = put_in caches_mid start (shorter back side.chain) blocks (rw yes_moved at taken) in
           let ended : left_of rest ≡ [] → ends ≡ true = λ none. ends_whole (left_of rest) m.left m.moved later ends is yes_moved left_is none in
           record {
             losses = losses;
@@ -373,8 +389,9 @@ module _ {G A : Type 0} (of : Ghosts G A) where
             ahead_is = left_is;
             magic_is = refl;
             next_start = start_after (left_of rest) (shorter back side.chain ++ blocks) start;
-            set = set_moved (left_of rest) (shorter back side.chain ++ blocks) start (of.files.bytes now.files) holdings pool_new side at.set limits
-                (λ none. (sifts start (shorter back side.chain ++ blocks) (at.set.stood sure) stood (ended none)).0) (λ n ns some. same (ends_not n ns m.left m.moved later ends is (left_is ∙ some)));
+            set = set_moved (left_of rest) (shorter back side.chain ++ blocks) start (of.files.bytes now.files) holdings pool_new caches caches_new side at.set limits
+                (λ none. ((sifts start (shorter back side.chain ++ blocks) (at.set.stood sure) stood (ended none)).0, follows start (shorter back side.chain ++ blocks) there stood (ended none)))
+                (λ n ns some. let goes_on = ends_not n ns m.left m.moved later ends is (left_is ∙ some) in (same goes_on, rw (stays goes_on) there));
             touches = λ s. touches_moved (left_of rest) (shorter back side.chain ++ blocks) start (of.files.bytes now.files) side m.touched changed
                 (move_keeps (plan_of back rest) side.chain blocks m.touched touched) (λ none. (sifts start (shorter back side.chain ++ blocks) (at.set.stood sure) stood (ended none)).1);
             went = λ s. then_asked was.ledger mid now.ledger side.chain (shorter back side.chain ++ blocks) own live (rw chain_is at moved) asked;
@@ -394,9 +411,10 @@ module _ {G A : Type 0} (of : Ghosts G A) where
             ahead_is = left_is;
             magic_is = refl;
             next_start = side.chain;
-            set = set_refused later start (of.files.bytes now.files) holdings pool_new side sure at.set still limits
-                (λ yes_later. (sifts start side.chain (at.set.stood sure) moved_on.stood (ended ∙ yes_later)).0) (λ no_later. same (ended ∙ no_later));
-            touches = λ s. touches_refused later start (of.files.bytes now.files) holdings side m.touched changed sure at.set still
+            set = set_refused later start (of.files.bytes now.files) holdings pool_new caches caches_new side sure at.set still limits
+                (λ yes_later. (sifts start side.chain (at.set.stood sure) moved_on.stood (ended ∙ yes_later)).0) (λ no_later. same (ended ∙ no_later))
+                (stand_on later refl ended no_moved moved_on.stood);
+            touches = λ s. touches_refused later start (of.files.bytes now.files) holdings caches side m.touched changed sure at.set still
                 (λ yes_later. (sifts start side.chain (at.set.stood sure) moved_on.stood (ended ∙ yes_later)).1);
             went = λ s. then_asked was.ledger mid now.ledger side.chain side.chain own live moved_on asked;
             told = λ t. all_grow_none (of.files.bytes now.files);
@@ -415,9 +433,10 @@ module _ {G A : Type 0} (of : Ghosts G A) where
             ahead_is = left_is;
             magic_is = refl;
             next_start = side.chain;
-            set = set_refused later start (of.files.bytes now.files) holdings pool_new side sure at.set still limits
-                (λ yes_later. (sifts start side.chain (at.set.stood sure) moved_on.stood (ended ∙ yes_later)).0) (λ no_later. same (ended ∙ no_later));
-            touches = λ s. touches_refused later start (of.files.bytes now.files) holdings side m.touched changed sure at.set still
+            set = set_refused later start (of.files.bytes now.files) holdings pool_new caches caches_new side sure at.set still limits
+                (λ yes_later. (sifts start side.chain (at.set.stood sure) moved_on.stood (ended ∙ yes_later)).0) (λ no_later. same (ended ∙ no_later))
+                (stand_on later refl ended no_moved moved_on.stood);
+            touches = λ s. touches_refused later start (of.files.bytes now.files) holdings caches side m.touched changed sure at.set still
                 (λ yes_later. (sifts start side.chain (at.set.stood sure) moved_on.stood (ended ∙ yes_later)).1);
             went = λ s. then_asked was.ledger mid now.ledger side.chain side.chain own live moved_on asked;
             told = λ t. all_grow_none (of.files.bytes now.files);
@@ -431,16 +450,16 @@ module _ {G A : Type 0} (of : Ghosts G A) where
       → IfErr r (StopsAt of was now side.chain later (λ (p : Plan). p ≡ plan_of back rest))
   unsettled r e was now mid side back rest m later is own live t only asked counted others = rw is (by t.tried t.moved t.rose)
     where
-      lost_in : QueryFault → List Device
-      lost_in fault.DiskFailed = device.disk ∷ []
+      lost_in : QueryFault → List Deed
+      lost_in fault.DiskFailed = deed.lost deed.disk ∷ []
       lost_in fault.Memory = []
 
       rose_in : (e : QueryFault) → (e ≡ fault.DiskFailed → RoseBy (of.ledger.faults mid) (of.ledger.faults now.ledger) 1) → (e ≢ fault.DiskFailed → of.ledger.faults now.ledger ≡ of.ledger.faults mid)
           → Lost of (record now { ledger = mid }) now (lost_in e)
-      rose_in fault.DiskFailed counted others of_link = rose_of of_link _ _ _ _ (device.disk ∷ []) refl (rose_still _ _ refl) (counted refl)
-      rose_in fault.Memory counted others of_link = rose_of of_link _ _ _ _ [] refl (rose_still _ _ refl) (rose_still _ _ (others (λ e. let bad = e in cc)))
+      rose_in fault.DiskFailed counted others of_link of_relay = rose_of of_link of_relay _ _ _ _ (deed.lost deed.disk ∷ []) refl refl (rose_still _ _ refl) (counted refl)
+      rose_in fault.Memory counted others of_link of_relay = rose_of of_link of_relay _ _ _ _ [] refl refl (rose_still _ _ refl) (rose_still _ _ (others (λ e. let bad = e in cc)))
 
-      stops : (losses : List Device) (next : Chain) → IsUnderWay (StoodBy of.files (of.files.bytes now.files)) side.chain (λ (p : Plan). p ≡ plan_of back rest) next
+      stops : (losses : List Deed) (next : Chain) → IsUnderWay (StoodBy of.files (of.files.bytes now.files)) side.chain (λ (p : Plan). p ≡ plan_of back rest) next
           → Moved of.ledger was.ledger mid side.chain next → Lost of was (record now { ledger = mid }) losses
           → FailsBy later side.chain next e (losses ++ lost_in e) → StopsAt of was now side.chain later (λ (p : Plan). p ≡ plan_of back rest) e
       stops losses next flight moved rose fails = record {
@@ -450,19 +469,19 @@ module _ {G A : Type 0} (of : Ghosts G A) where
         stood = λ memory. then_asked was.ledger mid now.ledger side.chain next own live moved asked;
         losses = losses ++ lost_in e;
         fails = fails;
-        rose = λ of_link. all_rose_on (failed_beneath of of_link was) (failed_beneath of of_link (record now { ledger = mid })) (failed_beneath of of_link now) losses (lost_in e)
-            (rose of_link) (rose_in e counted others of_link);
+        rose = λ of_link of_relay. all_rose_on (failed_beneath of of_link of_relay was) (failed_beneath of of_link of_relay (record now { ledger = mid })) (failed_beneath of of_link of_relay now) losses (lost_in e)
+            (rose of_link of_relay) (rose_in e counted others of_link of_relay);
       }
 
       alone : (e : QueryFault) (next : Chain) → FailsBy later side.chain next e (lost_in e)
       alone fault.DiskFailed next = by_disk refl refl
       alone fault.Memory next = by_memory refl refl
 
-      after_files : (e : QueryFault) → later ≡ true → FailsBy later side.chain side.chain e (archive ∷ lost_in e)
+      after_files : (e : QueryFault) → later ≡ true → FailsBy later side.chain side.chain e (deed.lost archive ∷ lost_in e)
       after_files fault.DiskFailed yes_later = in_sift yes_later refl refl refl
       after_files fault.Memory yes_later = untold yes_later refl refl refl
 
-      by : {losses : List Device} {chain : Chain} → Tried (StoodAt of.files side.files (of.files.bytes now.files)) side back rest m.moved m.answer m.touched losses chain → Moved of.ledger was.ledger mid side.chain chain
+      by : {losses : List Deed} {chain : Chain} → Tried (StoodAt of.files side.files (of.files.bytes now.files)) side back rest m.moved m.answer m.touched losses chain → Moved of.ledger was.ledger mid side.chain chain
           → Lost of was (record now { ledger = mid }) losses
           → StopsAt of was now side.chain later (λ (p : Plan). p ≡ plan_of back rest) e
       by {losses} {chain} (made blocks moves touched yes_moved chain_is answer_is lost) moved rose =

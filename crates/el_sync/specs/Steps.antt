@@ -4,7 +4,8 @@ use Rattle.std.specs.Prelude.{◌≡◌, ◌⊎◌, ◌≤◌, ℕ, Bool, true, 
 use Rattle.std.specs.List.{AllByRecursion}
 use Rattle.el_base.specs.declared.hash.Hash32.{Hash32}
 use Rattle.el_outside.specs.Counts.{RoseBy, CountsOnly}
-use Rattle.el_outside.specs.Devices.{Device, archive, disk}
+use Rattle.el_side.specs.Deeds as deed
+use Rattle.el_side.specs.Deeds.{Deed, archive, disk}
 use Rattle.el_outside.specs.Files.{AllGrow}
 use Rattle.el_chain.specs.declared.moves.Plan.{Plan}
 use Rattle.el_chain.specs.declared.node.Node.{Node}
@@ -14,6 +15,7 @@ use Rattle.el_chain.specs.Moves.{StoodBy}
 use Rattle.el_chain.specs.Records.{IsNode}
 use Rattle.el_lines.specs.declared.node_answer.NodeAnswer.TheVariants as say
 use Rattle.el_lines.specs.declared.node_answer.NodeRefusal.TheVariants as refusal
+use Rattle.el_side.specs.declared.caches.Caches.{Caches}
 use Rattle.el_side.specs.declared.holdings.Holdings.{Holdings}
 use Rattle.el_side.specs.Beneath.{Beneath, Ghosts, Lost}
 use Rattle.el_side.specs.NodeSteps.{StepLeft}
@@ -37,22 +39,25 @@ pub record IsFrom (holdings : Holdings) (side : Side) : Type 0 where
 
 -- Why a step failed, and what the devices lost in it. Where the block files had failed before, no move was
 -- made: `next`, which a crash may leave, is the side's chain. `later` is whether the step is a later move.
-pub data FailsBy (later : Bool) (chain next : Chain) (e : QueryFault) (losses : List Device) : Type 0 where
-  by_disk : e ≡ fault.DiskFailed → losses ≡ disk ∷ [] → FailsBy later chain next e losses
+pub data FailsBy (later : Bool) (chain next : Chain) (e : QueryFault) (losses : List Deed) : Type 0 where
+  by_disk : e ≡ fault.DiskFailed → losses ≡ deed.lost disk ∷ [] → FailsBy later chain next e losses
   by_memory : e ≡ fault.Memory → losses ≡ [] → FailsBy later chain next e losses
-  -- in the sift, after the block files had failed in the move: no memory was found, or the disk failed
-  untold : later ≡ true → e ≡ fault.Memory → losses ≡ archive ∷ [] → next ≡ chain
+  -- in the sift or as the caches follow, after the block files had failed in the move: no memory was found, or
+  -- the disk failed
+  untold : later ≡ true → e ≡ fault.Memory → losses ≡ deed.lost archive ∷ [] → next ≡ chain
       → FailsBy later chain next e losses
-  in_sift : later ≡ true → e ≡ fault.DiskFailed → losses ≡ archive ∷ disk ∷ [] → next ≡ chain
+  in_sift : later ≡ true → e ≡ fault.DiskFailed → losses ≡ deed.lost archive ∷ deed.lost disk ∷ []
+      → next ≡ chain
       → FailsBy later chain next e losses
 
 -- where the block files failed in a line, it touched nothing
 abbrev pub TouchesNoFailed : Step → Type 0
 TouchesNoFailed s = s.answer ≡ say.Refused refusal.Archive → (s.moved ≡ []) × (s.changed ≡ [])
 
--- what a step left that gave this, where these headers are then found, and this is then held
-abbrev pub left_by : {G A : Type 0} → Beneath G A → Beneath G A → Step → List Node → Holdings → StepLeft G A
-left_by was now s found holdings = record {
+-- what a step left that gave this, where these headers are then found, and these are then held and kept
+abbrev pub left_by : {G A : Type 0} → Beneath G A → Beneath G A → Step → List Node → Holdings → Caches
+    → StepLeft G A
+left_by was now s found holdings caches = record {
   was = was;
   now = now;
   answer = s.answer;
@@ -61,25 +66,26 @@ left_by was now s found holdings = record {
   moved = s.moved;
   changed = s.changed;
   holdings = holdings;
+  caches = caches;
 }
 
 -- The step failed. What a crash since its start leaves is the side's chain or `next`, the target of a move
 -- that the step may make. Where no memory was found the ledger stands for `next`, which is the side's chain
--- or what the move has made of it before the set was sifted.
+-- or what the move has made of it before the set was sifted and the caches followed.
 pub record StopsAt {G A : Type 0} (of : Ghosts G A) (was now : Beneath G A) (chain : Chain) (later : Bool)
     (is_move : Plan → Type 0) (e : QueryFault) : Type 0 where
   pub next : Chain
   pub flight : IsUnderWay (StoodBy of.files (of.files.bytes now.files)) chain is_move next
   pub crash : CrashLeaves of.ledger was.ledger now.ledger chain next
   pub stood : e ≡ fault.Memory → Moved of.ledger was.ledger now.ledger chain next
-  pub losses : List Device
+  pub losses : List Deed
   pub fails : FailsBy later chain next e losses
   pub rose : Lost of was now losses
 
 -- The step failed, of whatever side, and this was lost in it.
 pub record Fails {G A : Type 0} (of : Ghosts G A) (was now : Beneath G A) (chain : Chain) (later : Bool)
     (e : QueryFault) : Type 0 where
-  pub losses : List Device
+  pub losses : List Deed
   pub fails : FailsBy later chain chain e losses
   pub rose : Lost of was now losses
 

@@ -1,5 +1,5 @@
-// The moves of a tip line, and the sift of the unconfirmed set that ends it.
-ghost use Rattle.std.specs.Prelude.{◌≡◌, ◌≢◌, ◌≤◌, ◌<◌, ◌==◌, ◌&&◌, ◌||◌, [], true, false, IfOk, IfErr, OnOk, OnErr, List, length};
+// The moves of a tip line, and the sift of the unconfirmed set and what the caches follow that end it.
+ghost use Rattle.std.specs.Prelude.{◌≡◌, ◌≢◌, ◌≤◌, ◌<◌, ◌==◌, ◌&&◌, ◌||◌, if◌then◌else◌, [], true, false, IfOk, IfErr, OnOk, OnErr, List, length};
 ghost use Rattle.std.specs.List.{AllByRecursion};
 ghost use Rattle.el_base.specs.declared.hash.Hash32 as hash_shape;
 ghost use Rattle.el_outside.specs.Counts.{CountsOnly};
@@ -14,6 +14,7 @@ ghost use Rattle.el_mempool.specs.Standing.{AreChanged, StandsFor};
 ghost use Rattle.el_model.specs.LedgerCalls.{Asked};
 ghost use Rattle.el_model.specs.declared.fault.QueryFault.TheVariants as turn_fault;
 ghost use Rattle.el_side.specs.Beneath.{beneath, ghosts};
+ghost use Rattle.el_side.specs.Caching.{CachesStand};
 ghost use Rattle.el_side.specs.Plans.{plan_of};
 ghost use Rattle.el_side.specs.Side.{Side, Moving};
 ghost use Rattle.el_side.specs.NodeSteps.{IsAt, Leads};
@@ -27,7 +28,7 @@ use el_lines::NodeAnswer;
 use el_model::Ledger;
 use el_outside::{Archive, Pace};
 use el_pool::Pool;
-use el_side::Holdings;
+use el_side::{Caches, Holdings};
 use std::alloc::Global;
 use std::thread::Threads;
 
@@ -52,11 +53,20 @@ fn ends_line(left: &Ahead, moved: bool, later: bool) -> bool
     left.is_empty() && (moved || later)
 }
 
-// Sifts the set over the ledger's chain, where a line ends, and gives the script hashes that changed.
+// How many blocks a move took back that was to take so many: none where it wasn't made.
+fn taken(moved: bool, back: u32) -> u32
+    ensures { result ≡ (if moved then back else 0) }
+{
+    if moved { back } else { 0 }
+}
+
+// Where a line ends, sifts the set over the ledger's chain, and brings the caches to it. Gives the script
+// hashes that changed.
 fn settle<G: Ledger>(
     alloc: Global,
     ledger: &mut G,
     pool: &mut Pool,
+    caches: &mut Caches,
     ends: bool,
 ) -> Result<Touched, StepFault>
     requires live { G.is_live ledger.old }
@@ -64,7 +74,10 @@ fn settle<G: Ledger>(
         → StandsFor pool.old.entries before kept → G.stands ledger.old chain
         → IfOk result (λ changed. ends ≡ true → StandsFor pool.new.entries chain (sift chain kept)
         × AreChanged before kept chain (sift chain kept) changed) }
+    ensures followed { (start chain : Chain) → CachesStand caches.old start chain → G.stands ledger.old chain
+        → OnOk result (ends ≡ true → CachesStand caches.new chain chain) }
     ensures same { OnOk result (ends ≡ false → pool.new ≡ pool.old) }
+    ensures kept { OnOk result (ends ≡ false → caches.new ≡ caches.old) }
     ensures none { IfOk result (λ changed. ends ≡ false → changed ≡ []) }
     ensures only { OnErr result (ends ≡ true) }
     ensures limits { pool.new.limits ≡ pool.old.limits }
@@ -75,22 +88,24 @@ fn settle<G: Ledger>(
         return Ok(Touched::new(alloc));
     }
     let changed = pool.after_move(ledger)?;
+    caches.follow(alloc, ledger)?;
     Ok(changed)
 }
 
 /// Makes the next move of a tip line: so many blocks of the chain are taken back, and the first of the rest
-/// are put in. Where it is refused, no block is left. With the last move the set is sifted, and with a later
-/// one that is refused.
+/// are put in. Where it is refused, no block is left. With the last move, and with a later one that is refused,
+/// the set is sifted and the caches are brought to the chain.
 ///
 /// # Errors
 ///
 /// `StepFault::DiskFailed`, after which the ledger isn't live, and `StepFault::Memory`; what was moved before
-/// stays so, and the set isn't used again.
+/// stays so, and neither the set nor the caches are used again.
 pub fn move_once<W: Threads + Sync, G: Ledger, A: Archive>(
     rt: &W,
     alloc: Global,
     ledger: &mut G,
     holdings: &mut Holdings,
+    caches: &mut Caches,
     back: u32,
     rest: Ahead,
     archive: &mut A,
@@ -105,9 +120,9 @@ pub fn move_once<W: Threads + Sync, G: Ledger, A: Archive>(
         → (back ≤ length chain) × AreLinked (tip (shorter back chain)) rest }
     ensures moving { let of = ghosts ⟦<G as Ledger>⟧ ⟦<A as Archive>⟧ in
         let was = beneath ledger.old archive.old in (side : Side) (start : Chain)
-        → IsAt of was holdings.old side start → (later ≡ false → side.ahead ≡ []) → IfOk result (λ s.
+        → IsAt of was holdings.old caches.old side start → (later ≡ false → side.ahead ≡ []) → IfOk result (λ s.
         Leads of (Moving ⟦<A as Archive>⟧ side back rest) side start
-        (left_by was (beneath ledger.new archive.new) s side.found holdings.new)) }
+        (left_by was (beneath ledger.new archive.new) s side.found holdings.new caches.new)) }
     ensures stopped { (chain : Chain) → G.stands ledger.old chain → IfErr result (
         StopsAt (ghosts ⟦<G as Ledger>⟧ ⟦<A as Archive>⟧) (beneath ledger.old archive.old)
         (beneath ledger.new archive.new) chain later (λ (p : moves.Plan). p ≡ plan_of back rest)) }
@@ -120,14 +135,16 @@ pub fn move_once<W: Threads + Sync, G: Ledger, A: Archive>(
     ensures step { NodeStep (ghosts ⟦<G as Ledger>⟧ ⟦<A as Archive>⟧) (beneath ledger.old archive.old)
         (beneath ledger.new archive.new) later result }
 {
+    let top = ledger.height();
     let Made {
         answer,
         left,
         moved,
         touched,
     } = make_move(rt, alloc, ledger, back, rest, archive, pace)?;
+    caches.take_back(top, taken(moved, back));
     let ends = ends_line(&left, moved, later);
-    let changed = settle(alloc, ledger, &mut holdings.pool, ends)?;
+    let changed = settle(alloc, ledger, &mut holdings.pool, caches, ends)?;
     Ok(Step {
         answer,
         left,
@@ -138,17 +155,18 @@ pub fn move_once<W: Threads + Sync, G: Ledger, A: Archive>(
 
 /// Makes the next of the later moves of a tip line, which takes no block back: the first of the rest are put
 /// in. Where it is refused, no block is left. With the last move, and with one that is refused, the set is
-/// sifted.
+/// sifted and the caches are brought to the chain.
 ///
 /// # Errors
 ///
 /// `StepFault::DiskFailed`, after which the ledger isn't live, and `StepFault::Memory`; what was moved before
-/// stays so, and the set isn't used again.
+/// stays so, and neither the set nor the caches are used again.
 pub fn move_next<W: Threads + Sync, G: Ledger, A: Archive>(
     rt: &W,
     alloc: Global,
     ledger: &mut G,
     holdings: &mut Holdings,
+    caches: &mut Caches,
     rest: Ahead,
     archive: &mut A,
     pace: &(dyn Pace + Sync),
@@ -159,9 +177,9 @@ pub fn move_next<W: Threads + Sync, G: Ledger, A: Archive>(
     requires fits { (chain : Chain) → G.stands ledger.old chain → AreLinked (tip chain) rest }
     ensures moving { let of = ghosts ⟦<G as Ledger>⟧ ⟦<A as Archive>⟧ in
         let was = beneath ledger.old archive.old in (side : Side) (start : Chain)
-        → IsAt of was holdings.old side start → IfOk result (λ s.
+        → IsAt of was holdings.old caches.old side start → IfOk result (λ s.
         Leads of (Moving ⟦<A as Archive>⟧ side 0 rest) side start
-        (left_by was (beneath ledger.new archive.new) s side.found holdings.new)) }
+        (left_by was (beneath ledger.new archive.new) s side.found holdings.new caches.new)) }
     ensures stopped { (chain : Chain) → G.stands ledger.old chain → IfErr result (
         StopsAt (ghosts ⟦<G as Ledger>⟧ ⟦<A as Archive>⟧) (beneath ledger.old archive.old)
         (beneath ledger.new archive.new) chain true (λ (p : moves.Plan). p ≡ plan_of 0 rest)) }
@@ -173,5 +191,7 @@ pub fn move_next<W: Threads + Sync, G: Ledger, A: Archive>(
     ensures step { NodeStep (ghosts ⟦<G as Ledger>⟧ ⟦<A as Archive>⟧) (beneath ledger.old archive.old)
         (beneath ledger.new archive.new) true result }
 {
-    move_once(rt, alloc, ledger, holdings, 0, rest, archive, true, pace)
+    move_once(
+        rt, alloc, ledger, holdings, caches, 0, rest, archive, true, pace,
+    )
 }

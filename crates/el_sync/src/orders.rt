@@ -33,7 +33,7 @@ use el_headers::{Added, HeaderTree, PathEnd, PathFault};
 use el_lines::{LineEvent, NodeAnswer, NodeLine, NodeLineFault, NodeRefusal, read_node_line};
 use el_model::Ledger;
 use el_outside::{Archive, Pace};
-use el_side::Holdings;
+use el_side::{Caches, Holdings};
 use std::alloc::Global;
 use std::thread::Threads;
 
@@ -126,6 +126,7 @@ fn move_along<W: Threads + Sync, G: Ledger, A: Archive>(
     alloc: Global,
     ledger: &mut G,
     holdings: &mut Holdings,
+    caches: &mut Caches,
     archive: &mut A,
     end: &PathEnd,
     pace: &(dyn Pace + Sync),
@@ -137,9 +138,9 @@ fn move_along<W: Threads + Sync, G: Ledger, A: Archive>(
     ensures along { let of = ghosts ⟦<G as Ledger>⟧ ⟦<A as Archive>⟧ in
         let was = beneath ledger.old archive.old in
         (path : List node_shape.Node) (side : Side) (start : Chain)
-        → IsPath holdings.old.tree end.now.node.hash path → IsAt of was holdings.old side start
+        → IsPath holdings.old.tree end.now.node.hash path → IsAt of was holdings.old caches.old side start
         → side.ahead ≡ [] → IfOk result (λ s. Leads of (GoesAlong ⟦<A as Archive>⟧ side path) side start
-        (left_by was (beneath ledger.new archive.new) s side.found holdings.new)) }
+        (left_by was (beneath ledger.new archive.new) s side.found holdings.new caches.new)) }
     ensures stopped { (path : List node_shape.Node) (chain : Chain)
         → IsPath holdings.old.tree end.now.node.hash path → G.stands ledger.old chain → IfErr result (
         StopsAt (ghosts ⟦<G as Ledger>⟧ ⟦<A as Archive>⟧) (beneath ledger.old archive.old)
@@ -176,6 +177,7 @@ fn move_along<W: Threads + Sync, G: Ledger, A: Archive>(
         alloc,
         ledger,
         holdings,
+        caches,
         back as u32,
         rest,
         archive,
@@ -190,6 +192,7 @@ fn order_tip<W: Threads + Sync, G: Ledger, A: Archive>(
     alloc: Global,
     ledger: &mut G,
     holdings: &mut Holdings,
+    caches: &mut Caches,
     archive: &mut A,
     h: Hash32,
     pace: &(dyn Pace + Sync),
@@ -197,12 +200,12 @@ fn order_tip<W: Threads + Sync, G: Ledger, A: Archive>(
     requires live { G.is_live ledger.old }
     ensures tip { let of = ghosts ⟦<G as Ledger>⟧ ⟦<A as Archive>⟧ in
         let was = beneath ledger.old archive.old in (side : Side) (start : Chain)
-        → IsAt of was holdings.old side start → side.found ≡ holdings.old.tree → side.ahead ≡ []
+        → IsAt of was holdings.old caches.old side start → side.found ≡ holdings.old.tree → side.ahead ≡ []
         → IfOk result (λ s. Leads of (Tips ⟦<A as Archive>⟧ side h) side start
-        (left_by was (beneath ledger.new archive.new) s side.found holdings.new)) }
+        (left_by was (beneath ledger.new archive.new) s side.found holdings.new caches.new)) }
     ensures stopped { let of = ghosts ⟦<G as Ledger>⟧ ⟦<A as Archive>⟧ in
         let was = beneath ledger.old archive.old in (side : Side) (start : Chain)
-        → IsSure side → IsAt of was holdings.old side start → side.found ≡ holdings.old.tree → IfErr result (
+        → IsSure side → IsAt of was holdings.old caches.old side start → side.found ≡ holdings.old.tree → IfErr result (
         StopsAt of was (beneath ledger.new archive.new) side.chain false (IsTipMove side h)) }
     ensures memory { (side : Side) → G.stands ledger.old side.chain → side.found ≡ holdings.old.tree
         → IsErrOf result turn_fault.Memory → MayMove side h }
@@ -217,7 +220,7 @@ fn order_tip<W: Threads + Sync, G: Ledger, A: Archive>(
         (beneath ledger.new archive.new) false result }
 {
     match holdings.tree.path_end(&h) {
-        Ok(end) => move_along(rt, alloc, ledger, holdings, archive, &end, pace),
+        Ok(end) => move_along(rt, alloc, ledger, holdings, caches, archive, &end, pace),
         Err(PathFault::Unknown) => Ok(refusing(alloc, NodeRefusal::Unknown(h))),
         Err(PathFault::Unconnected) => Ok(refusing(alloc, NodeRefusal::Unconnected(h))),
         Err(PathFault::Memory) => Err(StepFault::Memory),
@@ -230,6 +233,7 @@ fn order_line<W: Threads + Sync, G: Ledger, A: Archive>(
     alloc: Global,
     ledger: &mut G,
     holdings: &mut Holdings,
+    caches: &mut Caches,
     archive: &mut A,
     text: &[u8],
     pace: &(dyn Pace + Sync),
@@ -237,21 +241,21 @@ fn order_line<W: Threads + Sync, G: Ledger, A: Archive>(
     requires live { G.is_live ledger.old }
     ensures node { let of = ghosts ⟦<G as Ledger>⟧ ⟦<A as Archive>⟧ in
         let was = beneath ledger.old archive.old in (side : Side) (start : Chain)
-        → IsAt of was holdings.old side start → IsFrom holdings.old side → IfOk result (λ s.
+        → IsAt of was holdings.old caches.old side start → IsFrom holdings.old side → IfOk result (λ s.
         Leads of (OrdersLine ⟦<A as Archive>⟧ side (line text.now)) side start
-        (left_by was (beneath ledger.new archive.new) s holdings.new.tree holdings.new)) }
+        (left_by was (beneath ledger.new archive.new) s holdings.new.tree holdings.new caches.new)) }
     ensures stopped { let of = ghosts ⟦<G as Ledger>⟧ ⟦<A as Archive>⟧ in
         let was = beneath ledger.old archive.old in (side : Side) (start : Chain)
-        → IsSure side → IsAt of was holdings.old side start → IsFrom holdings.old side → IfErr result (
+        → IsSure side → IsAt of was holdings.old caches.old side start → IsFrom holdings.old side → IfErr result (
         StopsAt of was (beneath ledger.new archive.new) side.chain false (IsFirstMove side (line text.now))) }
     ensures memory { (side : Side) (start : Chain)
         → IsSure side → IsAt (ghosts ⟦<G as Ledger>⟧ ⟦<A as Archive>⟧) (beneath ledger.old archive.old)
-        holdings.old side start → IsFrom holdings.old side → IsErrOf result turn_fault.Memory
+        holdings.old caches.old side start → IsFrom holdings.old side → IsErrOf result turn_fault.Memory
         → WantsMemory ⟦<A as Archive>⟧ side (A.bytes archive.new) (line text.now) }
     ensures untouched { IfOk result TouchesNoFailed }
     ensures rows { (side : Side) (start : Chain)
         → IsSure side → IsAt (ghosts ⟦<G as Ledger>⟧ ⟦<A as Archive>⟧) (beneath ledger.old archive.old)
-        holdings.old side start → IsFrom holdings.old side → IfOk result (λ s.
+        holdings.old caches.old side start → IsFrom holdings.old side → IfOk result (λ s.
         ReadsLine side (line text.now) (G.reads ledger.old) (G.reads ledger.new)) }
     ensures magic { holdings.new.magic ≡ holdings.old.magic }
     ensures limits { holdings.new.pool.limits ≡ holdings.old.pool.limits }
@@ -265,7 +269,7 @@ fn order_line<W: Threads + Sync, G: Ledger, A: Archive>(
             let answer = order_block(holdings, archive, file, at)?;
             Ok(only_answer(alloc, answer))
         }
-        Ok(NodeLine::Tip(h)) => order_tip(rt, alloc, ledger, holdings, archive, h, pace),
+        Ok(NodeLine::Tip(h)) => order_tip(rt, alloc, ledger, holdings, caches, archive, h, pace),
         Ok(NodeLine::Tx(bytes)) => {
             let told = order_tx(alloc, ledger, &mut holdings.pool, bytes.as_slice())?;
             Ok(pool_step(alloc, told))
@@ -292,6 +296,7 @@ pub fn order<W: Threads + Sync, G: Ledger, A: Archive>(
     alloc: Global,
     ledger: &mut G,
     holdings: &mut Holdings,
+    caches: &mut Caches,
     archive: &mut A,
     met: LineEvent,
     pace: &(dyn Pace + Sync),
@@ -299,23 +304,23 @@ pub fn order<W: Threads + Sync, G: Ledger, A: Archive>(
     requires live { G.is_live ledger.old }
     ensures node { let of = ghosts ⟦<G as Ledger>⟧ ⟦<A as Archive>⟧ in
         let was = beneath ledger.old archive.old in (side : Side) (start : Chain)
-        → IsAt of was holdings.old side start → IsFrom holdings.old side → IfOk result (λ s.
+        → IsAt of was holdings.old caches.old side start → IsFrom holdings.old side → IfOk result (λ s.
         Leads of (OrdersLine ⟦<A as Archive>⟧ side (as_listed met)) side start
-        (left_by was (beneath ledger.new archive.new) s holdings.new.tree holdings.new)) }
+        (left_by was (beneath ledger.new archive.new) s holdings.new.tree holdings.new caches.new)) }
     ensures stopped { let of = ghosts ⟦<G as Ledger>⟧ ⟦<A as Archive>⟧ in
         let was = beneath ledger.old archive.old in (side : Side) (start : Chain)
-        → IsSure side → IsAt of was holdings.old side start → IsFrom holdings.old side → IfErr result (
+        → IsSure side → IsAt of was holdings.old caches.old side start → IsFrom holdings.old side → IfErr result (
         StopsAt of was (beneath ledger.new archive.new) side.chain false (IsFirstMove side (as_listed met))) }
     // What needs no memory is answered without it.
     ensures memory { (side : Side) (start : Chain)
         → IsSure side → IsAt (ghosts ⟦<G as Ledger>⟧ ⟦<A as Archive>⟧) (beneath ledger.old archive.old)
-        holdings.old side start → IsFrom holdings.old side → IsErrOf result turn_fault.Memory
+        holdings.old caches.old side start → IsFrom holdings.old side → IsErrOf result turn_fault.Memory
         → WantsMemory ⟦<A as Archive>⟧ side (A.bytes archive.new) (as_listed met) }
     ensures untouched { IfOk result TouchesNoFailed }
     // How many rows are read, where no move is made and no transaction told.
     ensures rows { (side : Side) (start : Chain)
         → IsSure side → IsAt (ghosts ⟦<G as Ledger>⟧ ⟦<A as Archive>⟧) (beneath ledger.old archive.old)
-        holdings.old side start → IsFrom holdings.old side → IfOk result (λ s.
+        holdings.old caches.old side start → IsFrom holdings.old side → IfOk result (λ s.
         ReadsLine side (as_listed met) (G.reads ledger.old) (G.reads ledger.new)) }
     ensures magic { holdings.new.magic ≡ holdings.old.magic }
     ensures limits { holdings.new.pool.limits ≡ holdings.old.pool.limits }
@@ -327,7 +332,16 @@ pub fn order<W: Threads + Sync, G: Ledger, A: Archive>(
     match met {
         LineEvent::TooLong { limit: _ } => Ok(refusing(alloc, NodeRefusal::Long)),
         LineEvent::Line(text) => {
-            order_line(rt, alloc, ledger, holdings, archive, text.as_slice(), pace)
+            order_line(
+                rt,
+                alloc,
+                ledger,
+                holdings,
+                caches,
+                archive,
+                text.as_slice(),
+                pace,
+            )
         }
     }
 }

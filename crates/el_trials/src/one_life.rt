@@ -43,8 +43,8 @@ pub fn life_on<W: Threads + Sync>(
     Ok(Life { status, text, disk })
 }
 
-// How many files an index has.
-const FILE_COUNT: u32 = 10;
+// The files of an index, of either format, have numbers below this one.
+const FILE_COUNT: u32 = 31;
 
 // Choices of what a crash leaves: the first of the numbers by which a disk chooses, and how much greater each
 // next one is. They choose how many bytes each file has beyond the least, modulo how many it may have, and

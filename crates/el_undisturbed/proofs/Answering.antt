@@ -2,7 +2,7 @@
 use Rattle.std.proofs.Common.{◌≡◌, ℕ, Bool, true, false, nat_lt, List, [], ◌∷◌, ◌++◌, Some, Result, Ok, Err, refl, sym, ◌∙◌}
 use Rattle.std.specs.Prelude.{MatchBool}
 use Rattle.serde_json.specs.Data.{Data}
-use Rattle.el_outside.specs.Devices.{Device}
+use Rattle.el_side.specs.Deeds.{Deed}
 use Rattle.el_json.specs.Lines.{line_says}
 use Rattle.el_json.specs.declared.request.Request.{Request}
 use Rattle.el_json.specs.declared.request.Item.{Item}
@@ -29,7 +29,6 @@ use Rattle.el_replies.specs.declared.line.LineReply.{LineReply}
 use Rattle.el_side.specs.Side.{Side, IsSure}
 use Rattle.el_undisturbed.specs.AsDefined as defined
 use Rattle.el_undisturbed.specs.AsDefined.{AnswersAsDefined}
-use Rattle.el_undisturbed.proofs.Led.{not_lost}
 
 some_is : {x y : Result Data Refusal} → Some x ≡ Some y → y ≡ x
 some_is e = cc
@@ -42,27 +41,27 @@ module _ (tells : Type 0) (side : Side) (sure : IsSure side) (told' : tells) (ha
   given_as c s t (Err (stop.Refused r)) told g is none =
       let d = g.of_files (sure, told', has c) in
       rw d.0 (some_is is, d.1)
-  given_as c s t (Err stop.Disk) told g is none = absurd (not_lost _ _ none refl)
-  given_as c s t (Err stop.Archive) told g is none = absurd (not_lost _ _ none refl)
+  given_as c s t (Err stop.Disk) told g is none = absurd (let bad = none in cc)
+  given_as c s t (Err stop.Archive) told g is none = absurd (let bad = none in cc)
   given_as c s t (Err stop.Changed) told g is none = absurd (g.unchanged (sure, told', has c) refl)
   given_as c s t (Err stop.Memory) told g is none = absurd cc
 
   -- one request
-  told_as : (before after lost : List Device) (r : Request) (s t : Session) (told : Result Data Refusal) → IsTold tells side r s told t lost → lost ≡ []
+  told_as : (before after lost : List Deed) (r : Request) (s t : Session) (told : Result Data Refusal) → IsTold tells side r s told t lost → lost ≡ []
       → after ≡ before → AnswersAsDefined side before r s told after t
   told_as before after lost r s t told (answer.refused e called is same lost_is) none still = defined.refused e called is same still
   told_as before after lost r s t told (answer.asked c given called is g lost_is) none still =
       defined.asked c called (given_as c s t given told g is (sym lost_is ∙ none)) still
 
-  no_front : (xs ys : List Device) → xs ++ ys ≡ [] → xs ≡ []
+  no_front : (xs ys : List Deed) → xs ++ ys ≡ [] → xs ≡ []
   no_front [] ys e = refl
   no_front (x ∷ xs) ys e = absurd cc
 
-  no_back : (xs ys : List Device) → xs ++ ys ≡ [] → ys ≡ []
+  no_back : (xs ys : List Deed) → xs ++ ys ≡ [] → ys ≡ []
   no_back [] ys e = e
   no_back (x ∷ xs) ys e = absurd cc
 
-  answered_as : (x y : List Device) (r : Request) (s t : Session) (told : Result Data Refusal) → AnswersOf tells side x r s told y t → y ≡ []
+  answered_as : (x y : List Deed) (r : Request) (s t : Session) (told : Result Data Refusal) → AnswersOf tells side x r s told y t → y ≡ []
       → (x ≡ []) × AnswersAsDefined side x r s told y t
   answered_as x y r s t told a none =
       let all = sym a.2 ∙ none in
@@ -70,7 +69,7 @@ module _ (tells : Type 0) (side : Side) (sure : IsSure side) (told' : tells) (ha
       (front, told_as x y a.0 r s t told a.1 (no_back x a.0 all) (none ∙ sym front))
 
   -- an element of a batch
-  step_as : (i : Item) (x y : List Device) (s t : Session) (b c : Replies) → Step (AnswersOf tells side) i x s b y t c → y ≡ []
+  step_as : (i : Item) (x y : List Deed) (s t : Session) (b c : Replies) → Step (AnswersOf tells side) i x s b y t c → y ≡ []
       → (x ≡ []) × Step (AnswersAsDefined side) i x s b y t c
   step_as (Invalid id) x y s t b c step none = (sym step.0 ∙ none, step)
   step_as (Good r) x y s t b c step none = by (nat_lt BATCH_LIMIT b.size) step
@@ -81,7 +80,7 @@ module _ (tells : Type 0) (side : Side) (sure : IsSure side) (told' : tells) (ha
       by true done = (sym done.0 ∙ none, done)
       by false done = let a = answered_as x y r s t done.0 done.1 none in (a.0, (done.0, a.1, done.2))
 
-  steps_as : (is : List Item) (x y : List Device) (s t : Session) (b c : Replies) → Steps (AnswersOf tells side) is x s b y t c → y ≡ []
+  steps_as : (is : List Item) (x y : List Deed) (s t : Session) (b c : Replies) → Steps (AnswersOf tells side) is x s b y t c → y ≡ []
       → (x ≡ []) × Steps (AnswersAsDefined side) is x s b y t c
   steps_as [] x y s t b c done none = (sym done.0 ∙ none, done)
   steps_as (i ∷ is) x y s t b c (between, session, replies, step, rest) none =

@@ -4,8 +4,11 @@ use Rattle.std.proofs.Common.{◌≡◌, ℕ, zero, suc, Bool, true, false, ◌|
 use Rattle.std.specs.List.{AllByRecursion}
 use Rattle.el_base.specs.declared.hash.Hash32.{Hash32}
 use Rattle.el_base.proofs.Lists.{all_mid, all_more}
-use Rattle.el_outside.specs.Devices.{Device}
+use Rattle.el_side.specs.Deeds.{Deed, NoneLost}
+use Rattle.el_side.proofs.Deeds.{not_lost}
 use Rattle.el_outside.specs.Files.{AllGrow}
+use Rattle.el_outside.specs.Seen.{seen}
+use Rattle.el_outside.proofs.Traces.{all_grow_none, grows_by, grows_more}
 use Rattle.el_outside.specs.declared.archive.Archive as block_files
 use Rattle.el_chain.specs.declared.node.Node.{Node}
 use Rattle.el_chain.specs.Headers.{is_known, is_second}
@@ -19,13 +22,14 @@ use Rattle.el_lines.specs.NodeLines.{NodeLine}
 use Rattle.el_lines.specs.declared.node_answer.NodeAnswer.{NodeAnswer}
 use Rattle.el_chain.specs.Chains.{Chain}
 use Rattle.el_chain.specs.declared.moves.Plan.{Plan}
-use Rattle.el_methods.specs.Archives.{HasRecords}
+use Rattle.el_methods.specs.Archives.{HasRecords, WasWritten}
 use Rattle.el_side.specs.Plans.{plan_of}
 use Rattle.el_side.specs.Side as side_of
 use Rattle.el_side.specs.Side.{Side, IsSure, Looks, LooksUp, found_after, Moving, GoesAlong, Tips, Adds, Drops, Orders, OrdersLine}
-use Rattle.el_undisturbed.specs.HasAll.{HasAll, HasBlockOf, HoldBytesAlone}
+use Rattle.el_undisturbed.specs.HasAll.{HasAll, HasBlockOf}
+use Rattle.el_undisturbed.specs.WholeRecords.{ShowWholeRecords}
 use Rattle.el_undisturbed.proofs.NodeLines.{IsOwnAnswer, of_move, of_pool, of_found}
-use Rattle.el_undisturbed.proofs.Standing.{block_same, blocks_kept, looked_has, seen_written}
+use Rattle.el_undisturbed.proofs.Standing.{block_same, blocks_kept, all_written}
 
 -- a line led on
 pub record Goes (answer : NodeAnswer) (next : Side) : Type 0 where
@@ -35,7 +39,7 @@ pub record Goes (answer : NodeAnswer) (next : Side) : Type 0 where
 -- what holds of the records of a chain: they stay as the files grow, and a move puts in blocks that have theirs
 pub record Records {A : Type 0} (of_files : block_files.Ghosts A) : Type 0 where
   pub stay : (old new : ℕ → List ℕ) (chain : Chain) → AllGrow old new → HasRecords old chain → HasRecords new chain
-  pub moved : (before after : ℕ → List ℕ) (chain blocks : Chain) (p : Plan) → of_files.tells → ((archive : A) (file : ℕ) → of_files.padding archive file ≡ [])
+  pub moved : (before after : ℕ → List ℕ) (chain blocks : Chain) (p : Plan) → of_files.tells → AllByRecursion (WasWritten before) p.forward
       → HasRecords after chain → Moves (StoodAt of_files before after) chain p blocks → HasRecords after (target p chain blocks)
 
 all_taken : {X : Type 0} (P : X → Type 0) (n : ℕ) (xs : List X) → AllByRecursion P xs → AllByRecursion P (take n xs)
@@ -43,12 +47,9 @@ all_taken P zero xs all = tt
 all_taken P (suc n) [] all = tt
 all_taken P (suc n) (x ∷ xs) all = (all.0, all_taken P n xs all.1)
 
--- a device failed
-pub not_lost : (d : Device) (losses : List Device) → losses ≡ [] → losses ≡ d ∷ [] → ⊥
-not_lost d losses none lost = let both = sym none ∙ lost in cc
-
-module _ {A : Type 0} (of_files : block_files.Ghosts A) (records : Records of_files) (alone : HoldBytesAlone of_files) (told : of_files.tells) (side : Side) (sure : IsSure side) (all : HasAll side)
-    (answer : NodeAnswer) (losses : List Device) (none : losses ≡ []) (next : Side) where
+module _ {A : Type 0} (of_files : block_files.Ghosts A) (records : Records of_files) (told : of_files.tells) (side : Side) (end : ℕ → List ℕ)
+    (shows : ShowWholeRecords of_files side.magic side.files end) (sure : IsSure side) (all : HasAll side)
+    (answer : NodeAnswer) (losses : List Deed) (none : NoneLost losses) (next : Side) (ends : AllGrow next.files end) where
   never : side.sure ≡ false → ⊥
   never un = true≢false (sym sure ∙ un)
 
@@ -60,21 +61,21 @@ module _ {A : Type 0} (of_files : block_files.Ghosts A) (records : Records of_fi
     chain = records.stay side.files files side.chain grows all.chain;
   }
 
-  found_more : (file at : ℕ) (found : Option Node) (files : ℕ → List ℕ) → LooksUp of_files side file at found files
+  found_more : (file at : ℕ) (found : Option Node) (files : ℕ → List ℕ) → AllGrow files end → LooksUp of_files side file at found files
       → AllByRecursion (HasBlockOf files) (found_after side.found found)
-  found_more file at None files looked = blocks_kept side.files files side.found (looked.grows told) all.found
-  found_more file at (Some n) files looked = by (is_known side.found n.hash || is_second side.found n)
+  found_more file at None files later looked = blocks_kept side.files files side.found (looked.grows told) all.found
+  found_more file at (Some n) files later looked = by (is_known side.found n.hash || is_second side.found n)
     where
       by : (b : Bool) → AllByRecursion (HasBlockOf files) (if b then side.found else side.found ++ n ∷ [])
       by true = blocks_kept side.files files side.found (looked.grows told) all.found
       by false = all_more (HasBlockOf files) side.found n (blocks_kept side.files files side.found (looked.grows told) all.found)
-          (looked_has of_files alone side.files files side.magic file at n (looked.record_is told))
+          (shows.looked side.files files file at n (all_grow_none side.files) later (looked.record_is told))
 
   of_looks : (file at : ℕ) → Looks of_files side file at answer losses next → Goes answer next
   of_looks file at (side_of.looks found files looked e n z) = record {
     own = rw e (of_found side.found found);
     has = rw n (record {
-      found = found_more file at found files looked;
+      found = found_more file at found files (rw n at ends) looked;
       ahead = blocks_kept side.files files side.ahead (looked.grows told) all.ahead;
       chain = records.stay side.files files side.chain (looked.grows told) all.chain;
     });
@@ -90,8 +91,9 @@ module _ {A : Type 0} (of_files : block_files.Ghosts A) (records : Records of_fi
       let stood = c.told told in
       let w = stood.1 in
       let bytes = of_files.bytes w.archive file in
-      let there = block_same c.node (side.files file) bytes (w.between.grew file) has in
-      let is : c.text ≡ block_at c.node.place bytes = stood.2 ∙ ap (block_at c.node.place) (w.is ∙ seen_written of_files alone w.archive file) in
+      let grown = grows_more (side.files file) bytes (seen of_files w.archive file) (w.between.grew file) (grows_by bytes (of_files.padding w.archive file)) in
+      let there = block_same c.node (side.files file) (seen of_files w.archive file) grown has in
+      let is : c.text ≡ block_at c.node.place (seen of_files w.archive file) = stood.2 ∙ ap (block_at c.node.place) w.is in
       c.other.other (subst (IsBlockOf c.node) (sym is) there)
 
   pub of_moving : (back : ℕ) (rest : List Node) → AllByRecursion (HasBlockOf side.files) rest → Moving of_files side back rest answer losses next → Goes answer next
@@ -100,7 +102,8 @@ module _ {A : Type 0} (of_files : block_files.Ghosts A) (records : Records of_fi
     has = rw n (record {
       found = blocks_kept side.files files side.found (grows told) all.found;
       ahead = blocks_kept side.files files _ (grows told) (all_drop (HasBlockOf side.files) max_forward rest have);
-      chain = records.moved side.files files side.chain blocks (plan_of back rest) told alone.no_padding
+      chain = records.moved side.files files side.chain blocks (plan_of back rest) told
+          (all_written side.files (take max_forward rest) (all_taken (HasBlockOf side.files) max_forward rest have))
           (records.stay side.files files side.chain (grows told) all.chain) moved;
     });
   }

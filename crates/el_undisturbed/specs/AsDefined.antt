@@ -1,7 +1,7 @@
 -- What a request is answered where no call of a device fails: just what is defined.
 use Rattle.std.specs.Prelude.{◌≡◌, List, Result, Ok, Err}
 use Rattle.serde_json.specs.Data.{Data}
-use Rattle.el_outside.specs.Devices.{Device}
+use Rattle.el_side.specs.Deeds.{Deed}
 use Rattle.el_json.specs.declared.request.Request.{Request}
 use Rattle.el_calls.specs.Methods.{IsCalled}
 use Rattle.el_calls.specs.declared.call.Call.{Call}
@@ -16,8 +16,8 @@ IsTold (Ok (answer, kept)) s told t = (told ≡ Ok answer) × (t ≡ kept)
 IsTold (Err r) s told t = (told ≡ Err r) × (t ≡ s)
 
 -- The request is answered over the side as it is defined, and nothing is lost.
-pub data AnswersAsDefined (side : Side) (before : List Device) (r : Request) (s : Session)
-    (told : Result Data Refusal) (after : List Device) (t : Session) : Type 0 where
+pub data AnswersAsDefined (side : Side) (before : List Deed) (r : Request) (s : Session)
+    (told : Result Data Refusal) (after : List Deed) (t : Session) : Type 0 where
   -- it asks for no call
   refused : (e : Refusal) → IsCalled r.method r.params (Err e) → told ≡ Err e → t ≡ s → after ≡ before
       → AnswersAsDefined side before r s told after t

@@ -1,3 +1,4 @@
 pub mod HasAll
+pub mod WholeRecords
 pub mod Undisturbed
 pub mod AsDefined

@@ -4,4 +4,6 @@
 
 mod laws;
 
-pub use laws::{found_nodes_stand, lines_are_answered_as_defined, runs_are_undisturbed};
+pub use laws::{
+    found_nodes_stand, found_records_are_whole, lines_are_answered_as_defined, runs_are_undisturbed,
+};

@@ -5,7 +5,7 @@ use Rattle.std.specs.Prelude.{MatchBool}
 use Rattle.std.proofs.lemmas.Slice.Eq.{bytes_eq-Decides}
 use Rattle.serde_json.specs.Data.{Data}
 use Rattle.el_base.specs.declared.hash.Hash32.{Hash32}
-use Rattle.el_outside.specs.Devices.{Device}
+use Rattle.el_side.specs.Deeds.{Deed}
 use Rattle.el_tx.specs.declared.types.Tx.{Tx}
 use Rattle.el_chain.specs.Chains.{Chain}
 use Rattle.el_chain.specs.declared.node.Node.{Node}
@@ -180,12 +180,12 @@ module _ (tells : Type 0) (side : Side) (sure : IsSure side) where
           reply_keeps (IsAllTold side.chain side.kept) (replied side.chain side.kept side.found s c) s t given
           (is.of_index sure e) (call_keeps side.chain side.kept side.found c s was) was
 
-  request_keeps : (before next : List Device) (r : Request) (s t : Session) (answered : Result Data Refusal)
+  request_keeps : (before next : List Deed) (r : Request) (s t : Session) (answered : Result Data Refusal)
       → AnswersOf tells side before r s answered next t
       → IsAllTold side.chain side.kept s → IsAllTold side.chain side.kept t
   request_keeps before next r s t answered is was = by is.0 is.1
     where
-      by : (lost : List Device) → IsTold tells side r s answered t lost → IsAllTold side.chain side.kept t
+      by : (lost : List Deed) → IsTold tells side r s answered t lost → IsAllTold side.chain side.kept t
       by lost (answer.refused e asks says same unlost) = subst (IsAllTold side.chain side.kept) (sym same) was
       by lost (answer.asked c given asks says gives loses) = given_keeps c s t given gives was
 
@@ -193,7 +193,7 @@ module _ (tells : Type 0) (side : Side) (sure : IsSure side) where
 
 -- Where each subscription was told its status, it is after a line that is replied to.
 pub replies_keep_told : (tells : Type 0) (side : Side) (bytes : List ℕ) (was now : Session)
-    (losses : List Device) (reply : LineReply) → IsSure side → AllTold (status side.chain side.kept) was.subs
+    (losses : List Deed) (reply : LineReply) → IsSure side → AllTold (status side.chain side.kept) was.subs
     → Comes tells side bytes was losses now (Ok reply)
     → AllTold (status side.chain side.kept) now.subs
 replies_keep_told tells side bytes was now losses reply sure told comes =

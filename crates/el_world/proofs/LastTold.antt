@@ -4,7 +4,7 @@ use Rattle.std.specs.Prelude.{find, MatchBool}
 use Rattle.std.specs.List.{AllByRecursion}
 use Rattle.std.specs.Option.{option_to_list}
 use Rattle.el_base.proofs.Lists.{all_append, all_mid, all_weaker}
-use Rattle.el_outside.specs.Devices.{Device}
+use Rattle.el_side.specs.Deeds.{Deed}
 use Rattle.el_outside.specs.declared.archive.Archive as block_files
 use Rattle.el_outside.specs.Trace.{ArrivalWithBytes, Message, Closing}
 use Rattle.el_chain.specs.Chains.{Chain}
@@ -48,8 +48,8 @@ pub data Turned (world : World) (outs : Outs) (left : World) : Type 0 where
   to_node : (answer : NodeAnswer) → outs ≡ world_of.to_node (text_of answer)
       → TellsEnd world.side.chain answer left.side.chain → NoNode left → Turned world outs left
 
-led : (leads : NodeAnswer → List Device → Side → Type 0) (world first : World) (outs : Outs)
-    (losses : List Device) (left : World) → NoNode first
+led : (leads : NodeAnswer → List Deed → Side → Type 0) (world first : World) (outs : Outs)
+    (losses : List Deed) (left : World) → NoNode first
     → ((answer : NodeAnswer) (side : Side) → leads answer losses side
     → TellsEnd world.side.chain answer side.chain)
     → IsLed leads first outs losses left → Turned world outs left
@@ -57,7 +57,7 @@ led leads world first outs losses left all ends l =
     to_node l.answer l.outs_is (rw l.next_is (ends l.answer l.side l.led)) (rw l.next_is all)
 
 module _ {A : Type 0} (of_files : block_files.Ghosts A) (world : World) (sure : IsSure world.side) (all : NoNode world) where
-  answered : (p : ℕ) (bytes : List ℕ) (session : Session) (outs : Outs) (losses : List Device) (left : World)
+  answered : (p : ℕ) (bytes : List ℕ) (session : Session) (outs : Outs) (losses : List Deed) (left : World)
       → find (is_peer p) world.sessions ≡ Some session
       → IsAnswered of_files.tells world p bytes session outs losses left → Turned world outs left
   answered p bytes session outs losses left is (world_of.replied reply kept comes o n) =
@@ -70,13 +70,13 @@ module _ {A : Type 0} (of_files : block_files.Ghosts A) (world : World) (sure : 
   answered p bytes session outs losses left is (world_of.uncounted reply kept comes more o n) =
       rw (o, n) (to_clients tt refl (without_no_node p world all))
 
-  replied : (p : ℕ) (bytes : List ℕ) (found : Option Session) (outs : Outs) (losses : List Device)
+  replied : (p : ℕ) (bytes : List ℕ) (found : Option Session) (outs : Outs) (losses : List Deed)
       (left : World) → find (is_peer p) world.sessions ≡ found
       → Replied of_files.tells world p bytes found outs losses left → Turned world outs left
   replied p bytes None outs losses left is r = rw (r.0, r.1) (to_clients tt refl all)
   replied p bytes (Some session) outs losses left is r = answered p bytes session outs losses left is r
 
-  taken : (event : Event) (outs : Outs) (losses : List Device) (left : World) → IsOfPeers event
+  taken : (event : Event) (outs : Outs) (losses : List Deed) (left : World) → IsOfPeers event
       → Takes of_files world event outs losses left → Turned world outs left
   taken (world_of.joins p) outs losses left client' t =
       by (nat_lt (length world.sessions) client_limit) t
@@ -100,7 +100,7 @@ module _ {A : Type 0} (of_files : block_files.Ghosts A) (world : World) (sure : 
       led (OrdersLine of_files world.side met) world (world_of.begun world) outs losses left
       (begun_no_node world all) (λ answer side o. of_line of_files world.side sure answer losses side met o) t
 
-  notified : (outs : Outs) (losses : List Device) (left : World) → Notifies world outs losses left
+  notified : (outs : Outs) (losses : List Deed) (left : World) → Notifies world outs losses left
       → Turned world outs left
   notified outs losses left (world_of.tells session is o n z) =
       let client' = found_client (λ (s : Session). s.waits) world.sessions session all is in
@@ -110,7 +110,7 @@ module _ {A : Type 0} (of_files : block_files.Ghosts A) (world : World) (sure : 
       rw (o, n) (to_clients tt refl (without_no_node session.peer world all))
   notified outs losses left (world_of.unsure un session texts now is told' kept' o n z) = absurd (true≢false (sym sure ∙ un))
 
-  turned : (done : List Event) (outs : Outs) (losses : List Device) (left : World)
+  turned : (done : List Event) (outs : Outs) (losses : List Deed) (left : World)
       → AllByRecursion IsOfPeers done → OneTurn of_files world done outs losses left → Turned world outs left
   turned done outs losses left of_peers (run_of.takes event still everyone d t) =
       taken event outs losses left (rw d at of_peers).0 t
@@ -131,7 +131,7 @@ pub record Tells (first : World) (messages : List Message) (world : World) : Typ
   pub none : NoNode world
 
 delivered : (world left next : World) (outs : Outs) (sent : List Message) (closings : List Closing)
-    (losses : List Device) → IsSure left.side → Turned world outs left
+    (losses : List Deed) → IsSure left.side → Turned world outs left
     → Delivers left outs.messages outs.closing sent closings losses next → Tells world sent next
 delivered world left next outs sent closings losses sure (to_clients to same none) d = record {
   sure = ap (λ (s : Side). s.sure) (same_side d) ∙ sure;
@@ -161,7 +161,7 @@ nothing_told : (world : World) → IsSure world.side → NoNode world → Tells 
 nothing_told world sure none = record { sure = sure; told = told_of.untold tt refl; none = none }
 
 turns_tell : {A : Type 0} {of_files : block_files.Ghosts A} {first world : World} {past : List Event} {messages : List Message}
-    {closings : List Closing} {losses : List Device}
+    {closings : List Closing} {losses : List Deed}
     → Turns of_files first past messages closings losses world → IsSure first.side → NoNode first
     → AllByRecursion IsOfPeers past → Tells first messages world
 turns_tell {first = first} run_of.none sure none of_peers = nothing_told first sure none
@@ -181,7 +181,7 @@ heard_tells arrival world next messages t = record {
 }
 
 run_tells : {A : Type 0} {of_files : block_files.Ghosts A} {first world : World} {arrivals : List ArrivalWithBytes}
-    {messages : List Message} {closings : List Closing} {losses : List Device}
+    {messages : List Message} {closings : List Closing} {losses : List Deed}
     → Run of_files first arrivals messages closings losses world → IsSure first.side → NoNode first → Tells first messages world
 run_tells {first = first} run_of.none sure none = nothing_told first sure none
 run_tells {A} {of_files} {first} (run_of.more arrivals messages closings losses world arrival more_messages
@@ -200,13 +200,13 @@ first_alone x m (y ∷ ys) more e =
     let many = length-append ys (m ∷ more) in
     absurd (omega (arith, one, many))
 
-nothing_sent : {w n : World} {s : List Message} {c : List Closing} {l : List Device}
+nothing_sent : {w n : World} {s : List Message} {c : List Closing} {l : List Deed}
     → Delivers w [] None s c l n → s ≡ []
 nothing_sent (run_of.all w closing) = refl
 
 -- of the turn in which it stops the node gets no `at` line
 stop_tells : {A : Type 0} {of_files : block_files.Ghosts A} (world : World) {left : List Event} {stop : Stop} {sent : List Message}
-    {closings : List Closing} {losses : List Device} → IsSure world.side → NoNode world → AllByRecursion IsOfPeers left
+    {closings : List Closing} {losses : List Deed} → IsSure world.side → NoNode world → AllByRecursion IsOfPeers left
     → Stops of_files world left stop sent closings losses
     → IsLastTold world.side.chain sent world.side.chain
 stop_tells world sure none of_peers (run_of.disk_failed by_ nodes sent_none closed_none lost) = rw sent_none (told_of.untold tt refl)
@@ -227,7 +227,7 @@ stop_tells {A} {of_files} world {sent = sent} sure none of_peers
         rw (nothing_sent (rw alone at d)) (told_of.untold tt refl)
 
 stops_in_tells : {A : Type 0} {of_files : block_files.Ghosts A} (world : World) (arrival : ArrivalWithBytes) {stop : Stop}
-    {messages : List Message} {closings : List Closing} {losses : List Device} → IsSure world.side → NoNode world
+    {messages : List Message} {closings : List Closing} {losses : List Deed} → IsSure world.side → NoNode world
     → (s : StopsIn of_files world arrival stop messages closings losses)
     → IsLastTold world.side.chain messages (acked s)
 stops_in_tells world arrival {messages = messages} sure none (run_of.unheard starves by_ sent_none closed_none lost) =
@@ -244,7 +244,7 @@ stops_in_tells world arrival {messages = messages} sure none (run_of.in_turn don
     r
 
 halt_tells : {A : Type 0} {of_files : block_files.Ghosts A} {first : World} {stop : Stop} {arrivals : List ArrivalWithBytes}
-    {messages : List Message} {closings : List Closing} {losses : List Device}
+    {messages : List Message} {closings : List Closing} {losses : List Deed}
     (h : Halts of_files first stop arrivals messages closings losses) → IsSure first.side → NoNode first
     → IsLastTold first.side.chain messages (acked h.stops)
 halt_tells {first = first} h sure none =
@@ -256,13 +256,13 @@ halt_tells {first = first} h sure none =
 -- ---- from a world without clients
 
 pub run_last_told : {A : Type 0} {of_files : block_files.Ghosts A} {first world : World} {arrivals : List ArrivalWithBytes}
-    {messages : List Message} {closings : List Closing} {losses : List Device} → first.sessions ≡ [] → IsSure first.side
+    {messages : List Message} {closings : List Closing} {losses : List Deed} → first.sessions ≡ [] → IsSure first.side
     → Run of_files first arrivals messages closings losses world
     → IsLastTold first.side.chain messages world.side.chain
 run_last_told nobody sure run = (run_tells run sure (rw nobody tt)).told
 
 pub halt_last_told : {A : Type 0} {of_files : block_files.Ghosts A} {first : World} {stop : Stop} {arrivals : List ArrivalWithBytes}
-    {messages : List Message} {closings : List Closing} {losses : List Device} → first.sessions ≡ [] → IsSure first.side
+    {messages : List Message} {closings : List Closing} {losses : List Deed} → first.sessions ≡ [] → IsSure first.side
     → (h : Halts of_files first stop arrivals messages closings losses)
     → IsLastTold first.side.chain messages (acked h.stops)
 halt_last_told nobody sure h = halt_tells h sure (rw nobody tt)

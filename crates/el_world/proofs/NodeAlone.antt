@@ -3,7 +3,7 @@ use Rattle.std.proofs.Common.{◌≡◌, ◌≢◌, inl, inr, ℕ, ◌==◌, Boo
 use Rattle.std.specs.Prelude.{find}
 use Rattle.std.specs.List.{AllByRecursion, list_any, flat_map}
 use Rattle.el_base.proofs.Lists.{all_append, all_filter}
-use Rattle.el_outside.specs.Devices.{Device}
+use Rattle.el_side.specs.Deeds.{Deed}
 use Rattle.el_outside.specs.Trace.{ArrivalWithBytes, opened, brought, closed, quiet, ended, Message, Closing}
 use Rattle.el_lines.specs.Lines.{LineEvent, added_lines}
 use Rattle.el_lines.specs.NodeAnswers.{node_limit}
@@ -92,7 +92,7 @@ replied_no_node p reply session kept world client' all = by reply.closes
 -- ---- what is sent
 
 pub still_no_node : {world next : World} {messages sent : List Message} {closing : Option Closing}
-    {closings : List Closing} {losses : List Device}
+    {closings : List Closing} {losses : List Deed}
     → Delivers world messages closing sent closings losses next → NoNode world → NoNode next
 still_no_node (run_of.all world closing) none = none
 still_no_node (run_of.sends world m messages closing sent closings losses next d) none = still_no_node d none
@@ -100,7 +100,7 @@ still_no_node (run_of.loses world m messages closing reason sent closings losses
     still_no_node d (without_no_node m.peer world none)
 
 pub sent_to_clients : {world next : World} {messages sent : List Message} {closing : Option Closing}
-    {closings : List Closing} {losses : List Device}
+    {closings : List Closing} {losses : List Deed}
     → Delivers world messages closing sent closings losses next → ToClients messages → ToClients sent
 sent_to_clients (run_of.all world closing) to = tt
 sent_to_clients (run_of.sends world m messages closing sent closings losses next d) to =
@@ -110,7 +110,7 @@ sent_to_clients (run_of.loses world m messages closing reason sent closings loss
 
 -- a message to the node goes out
 pub sent_to_node : (world next : World) (text : List ℕ) (sent : List Message) (closings : List Closing)
-    (losses : List Device) → NoNode world
+    (losses : List Deed) → NoNode world
     → Delivers world (record { peer = 0; text = text } ∷ []) None sent closings losses next
     → sent ≡ record { peer = 0; text = text } ∷ []
 sent_to_node world next text sent closings losses none

@@ -4,7 +4,7 @@ use Rattle.std.proofs.Common.{◌≡◌, ◌≢◌, ◌⊎◌, inl, inr, ℕ, ze
 use Rattle.std.proofs.lemmas.List.{length-take-le}
 use Rattle.std.specs.Prelude.{option_map}
 use Rattle.el_base.specs.declared.hash.Hash32.{Hash32}
-use Rattle.el_outside.specs.Devices.{Device}
+use Rattle.el_side.specs.Deeds.{Deed}
 use Rattle.el_outside.specs.declared.archive.Archive as block_files
 use Rattle.el_chain.specs.Chains.{Chain, tip}
 use Rattle.el_chain.specs.Headers.{is_known, is_second}
@@ -211,7 +211,7 @@ same_chain : (side : Side) {next wanted : Side} → next ≡ wanted → wanted.c
     → next.chain ≡ side.chain
 same_chain side e f = ap (λ (s : Side). s.chain) e ∙ f
 
-module _ {A : Type 0} (of_files : block_files.Ghosts A) (side : Side) (sure : IsSure side) (answer : NodeAnswer) (losses : List Device) (next : Side) where
+module _ {A : Type 0} (of_files : block_files.Ghosts A) (side : Side) (sure : IsSure side) (answer : NodeAnswer) (losses : List Deed) (next : Side) where
   never : side.sure ≡ false → ⊥
   never un = true≢false (sym sure ∙ un)
 

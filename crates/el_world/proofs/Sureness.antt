@@ -2,7 +2,7 @@
 use Rattle.std.proofs.Common.{◌≡◌, ℕ, ◌==◌, Bool, true, false, if◌then◌else◌, List, ◌++◌, map, length, nat_lt, Option, None, Some, refl, ap, ◌∙◌}
 use Rattle.std.specs.Prelude.{find, MatchBool}
 use Rattle.el_base.specs.declared.hash.Hash32.{Hash32}
-use Rattle.el_outside.specs.Devices.{Device}
+use Rattle.el_side.specs.Deeds.{Deed}
 use Rattle.el_outside.specs.declared.archive.Archive as block_files
 use Rattle.el_outside.specs.Trace.{ArrivalWithBytes, opened, brought, closed, quiet, ended, Message, Closing}
 use Rattle.el_chain.specs.declared.node.Node.{Node}
@@ -25,7 +25,7 @@ use Rattle.el_world.specs.Run.{OneTurn, Delivers, Turns, Run}
 is_as : (side : Side) {next wanted : Side} → next ≡ wanted → wanted.sure ≡ side.sure → next.sure ≡ side.sure
 is_as side e f = ap (λ (s : Side). s.sure) e ∙ f
 
-module _ {A : Type 0} (of_files : block_files.Ghosts A) (side : Side) (answer : NodeAnswer) (losses : List Device) (next : Side) where
+module _ {A : Type 0} (of_files : block_files.Ghosts A) (side : Side) (answer : NodeAnswer) (losses : List Deed) (next : Side) where
   of_looks : (file at : ℕ) → Looks of_files side file at answer losses next → next.sure ≡ side.sure
   of_looks file at (side_of.looks found files looked e n z) = is_as side n refl
   of_looks file at (side_of.fails files grows e n z) = is_as side n refl
@@ -90,12 +90,12 @@ replied_side p reply session kept world = by reply.closes
 world_as : (world : World) {next wanted : World} → next ≡ wanted → wanted.side ≡ world.side → next.side.sure ≡ world.side.sure
 world_as world e f = ap (λ (w : World). w.side.sure) e ∙ ap (λ (s : Side). s.sure) f
 
-led_sure : (leads : NodeAnswer → List Device → Side → Type 0) (world first : World) (outs : Outs) (losses : List Device) (next : World)
+led_sure : (leads : NodeAnswer → List Deed → Side → Type 0) (world first : World) (outs : Outs) (losses : List Deed) (next : World)
     → ((answer : NodeAnswer) (side : Side) → leads answer losses side → side.sure ≡ world.side.sure)
     → IsLed leads first outs losses next → next.side.sure ≡ world.side.sure
 led_sure leads world first outs losses next sure l = ap (λ (w : World). w.side.sure) l.next_is ∙ sure l.answer l.side l.led
 
-module _ {A : Type 0} (of_files : block_files.Ghosts A) (world : World) (outs : Outs) (losses : List Device) (next : World) where
+module _ {A : Type 0} (of_files : block_files.Ghosts A) (world : World) (outs : Outs) (losses : List Deed) (next : World) where
   answered_sure : (p : ℕ) (bytes : List ℕ) (session : Session) → IsAnswered of_files.tells world p bytes session outs losses next
       → next.side.sure ≡ world.side.sure
   answered_sure p bytes session (world_of.replied reply kept comes o n) = world_as world n (replied_side p reply session kept world)
@@ -141,14 +141,14 @@ module _ {A : Type 0} (of_files : block_files.Ghosts A) (world : World) (outs : 
 
 -- what a turn gave is sent, and leaves the side
 pub same_side : {world next : World} {messages sent : List Message} {closing : Option Closing}
-    {closings : List Closing} {losses : List Device}
+    {closings : List Closing} {losses : List Deed}
     → Delivers world messages closing sent closings losses next → next.side ≡ world.side
 same_side (run_of.all world closing) = refl
 same_side (run_of.sends world m messages closing sent closings losses next d) = same_side d
 same_side (run_of.loses world m messages closing reason sent closings losses next is departs d) = same_side d
 
 pub turns_sure : {A : Type 0} {of_files : block_files.Ghosts A} {first world : World} {past : List Event} {messages : List Message}
-    {closings : List Closing} {losses : List Device}
+    {closings : List Closing} {losses : List Deed}
     → Turns of_files first past messages closings losses world → world.side.sure ≡ first.side.sure
 turns_sure run_of.none = refl
 turns_sure {of_files = of_files} (run_of.more past messages closings losses world done outs failed left sent closed' lost next turns turn d) =
@@ -168,7 +168,7 @@ heard_side quiet world = refl
 heard_side ended world = refl
 
 pub run_sure : {A : Type 0} {of_files : block_files.Ghosts A} {first world : World} {arrivals : List ArrivalWithBytes}
-    {messages : List Message} {closings : List Closing} {losses : List Device}
+    {messages : List Message} {closings : List Closing} {losses : List Deed}
     → Run of_files first arrivals messages closings losses world → world.side.sure ≡ first.side.sure
 run_sure run_of.none = refl
 run_sure (run_of.more arrivals messages closings losses world arrival more_messages more_closings more_losses next run turns still everyone) =

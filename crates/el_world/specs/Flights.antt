@@ -2,7 +2,7 @@
 -- chain of the world before the turn in which the run stops, since all that earlier turns gave was sent. In
 -- flight is the target of a move of that turn that has begun, if there is one.
 use Rattle.std.specs.Prelude.{◌≡◌, ℕ, List, ◌∷◌}
-use Rattle.el_outside.specs.Devices.{Device}
+use Rattle.el_side.specs.Deeds.{Deed}
 use Rattle.el_outside.specs.Files.{AllGrow}
 use Rattle.el_outside.specs.declared.archive.Archive as block_files
 use Rattle.el_outside.specs.Trace.{ArrivalWithBytes, Message, Closing}
@@ -23,7 +23,7 @@ pub data IsMoveOf (world : World) (left : List Event) (p : Plan) : Type 0 where
 
 -- The chain may be in flight where a turn stops. `now` are the block files as they are in the end.
 abbrev pub FliesAt : {A : Type 0} {of_files : block_files.Ghosts A} {world : World} {left : List Event}
-    {stop : Stop} {sent : List Message} {closings : List Closing} {losses : List Device}
+    {stop : Stop} {sent : List Message} {closings : List Closing} {losses : List Deed}
     → Stops of_files world left stop sent closings losses → (ℕ → List ℕ) → Chain → Type 0
 -- a move may have begun, whose blocks were read in the turn
 FliesAt {of_files = of_files} {world = world} {left = left} (disk_failed by nodes silent closed lost) now
@@ -46,7 +46,7 @@ FliesAt (unsent done rest outs failed after front back m lost last next whole tu
 -- the chain that is acknowledged where a run stops
 abbrev pub acked : {A : Type 0} {of_files : block_files.Ghosts A} {world : World}
     {arrival : ArrivalWithBytes} {stop : Stop}
-    {messages : List Message} {closings : List Closing} {losses : List Device}
+    {messages : List Message} {closings : List Closing} {losses : List Deed}
     → StopsIn of_files world arrival stop messages closings losses → Chain
 acked {world = world} (unheard starves by silent closed lost) = world.side.chain
 acked (in_turn done left past sent past_closings closed past_losses lost mid whole turns stops a b c) =
@@ -55,7 +55,7 @@ acked (in_turn done left past sent past_closings closed past_losses lost mid who
 -- the chain may be in flight where a run stops
 abbrev pub Flies : {A : Type 0} {of_files : block_files.Ghosts A} {world : World}
     {arrival : ArrivalWithBytes} {stop : Stop}
-    {messages : List Message} {closings : List Closing} {losses : List Device}
+    {messages : List Message} {closings : List Closing} {losses : List Deed}
     → StopsIn of_files world arrival stop messages closings losses → (ℕ → List ℕ) → Chain → Type 0
 Flies {world = world} (unheard starves by silent closed lost) now flight = flight ≡ world.side.chain
 Flies (in_turn done left past sent past_closings closed past_losses lost mid whole turns stops a b c) now

@@ -7,17 +7,18 @@
 -- after a later move, for which the block files failed, may find none: the run stops.
 use Rattle.std.specs.Prelude.{◌≡◌, ◌⊎◌, ℕ, ◌==◌, List, [], ◌∷◌, ◌++◌, filter, true, not, if◌then◌else◌, Option, Some, None}
 use Rattle.std.specs.Option.{option_to_list}
-use Rattle.el_outside.specs.Devices.{Device, link, archive, disk}
+use Rattle.el_side.specs.Deeds as deed
+use Rattle.el_side.specs.Deeds.{Deed, link, archive, disk}
 use Rattle.el_outside.specs.declared.archive.Archive as block_files
 use Rattle.el_outside.specs.Trace.{ArrivalWithBytes, opened, brought, Message, Closing}
 use Rattle.el_outside.specs.declared.link.Why.{Why}
 use Rattle.el_outside.specs.declared.link.Why.TheVariants as why
 use Rattle.el_world.specs.World.{World, Event, orders, Outs, Takes, Works, Notifies, IsStill, IsBusy, AllTold, events, after_hearing, is_client, without_client, closes_memory}
 
--- One turn, by which these events, one at most, are done. The device of each failed call stands among
--- `losses`: it was answered or closed for. `of_files` is what the type of the block files says of them.
+-- One turn, by which these events, one at most, are done. Each failed call stands among `losses`, with its
+-- device: it was answered or closed for. `of_files` is what the type of the block files says of them.
 pub data OneTurn {A : Type 0} (of_files : block_files.Ghosts A) (world : World) (done : List Event)
-    (outs : Outs) (losses : List Device) (next : World) : Type 0 where
+    (outs : Outs) (losses : List Deed) (next : World) : Type 0 where
   -- an event is taken; the node's last tip line left nothing to do, and everyone was told of it
   takes : (event : Event) → IsStill world → AllTold world → done ≡ event ∷ []
       → Takes of_files world event outs losses next → OneTurn of_files world done outs losses next
@@ -37,8 +38,8 @@ abbrev pub IsDeparture : Why → Type 0
 IsDeparture reason = (reason ≡ why.Gone) ⊎ (reason ≡ why.Memory)
 
 -- a message that couldn't be sent is a failure of the link
-abbrev pub lost_by : Why → List Device
-lost_by why.Gone = link ∷ []
+abbrev pub lost_by : Why → List Deed
+lost_by why.Gone = deed.lost link ∷ []
 lost_by other = []
 
 -- the messages to others than this peer
@@ -58,16 +59,16 @@ Closes (Some c) p = c.peer ≡ p
 -- The messages of a turn go out in order, and then its closing. Before a message to it a client, also one
 -- that would be closed then, may be closed for a departure: it gets nothing more, and is not closed again.
 -- `world` is the one that the turn left.
-pub data Delivers : World → List Message → Option Closing → List Message → List Closing → List Device → World
+pub data Delivers : World → List Message → Option Closing → List Message → List Closing → List Deed → World
     → Type 0 where
   all : (world : World) (closing : Option Closing)
       → Delivers world [] closing [] (option_to_list closing) [] world
   sends : (world : World) (m : Message) (messages : List Message) (closing : Option Closing)
-      (sent : List Message) (closings : List Closing) (losses : List Device) (next : World)
+      (sent : List Message) (closings : List Closing) (losses : List Deed) (next : World)
       → Delivers world messages closing sent closings losses next
       → Delivers world (m ∷ messages) closing (m ∷ sent) closings losses next
   loses : (world : World) (m : Message) (messages : List Message) (closing : Option Closing) (reason : Why)
-      (sent : List Message) (closings : List Closing) (losses : List Device) (next : World)
+      (sent : List Message) (closings : List Closing) (losses : List Deed) (next : World)
       → (is_client m.peer world ≡ true) ⊎ Closes closing m.peer → IsDeparture reason
       → Delivers (without_client m.peer world) (to_others m.peer messages) (unless_of m.peer closing)
       sent closings losses next
@@ -77,11 +78,11 @@ pub data Delivers : World → List Message → Option Closing → List Message �
 -- Turns, one after the other, from the first world to the last, with the events that were done, all that was
 -- sent and closed, and each failure of a device.
 pub data Turns {A : Type 0} (of_files : block_files.Ghosts A) (first : World)
-    : List Event → List Message → List Closing → List Device → World → Type 0 where
+    : List Event → List Message → List Closing → List Deed → World → Type 0 where
   none : Turns of_files first [] [] [] [] first
-  more : (past : List Event) (messages : List Message) (closings : List Closing) (losses : List Device)
-      (world : World) (done : List Event) (outs : Outs) (failed : List Device) (left : World)
-      (sent : List Message) (closed : List Closing) (lost : List Device) (next : World)
+  more : (past : List Event) (messages : List Message) (closings : List Closing) (losses : List Deed)
+      (world : World) (done : List Event) (outs : Outs) (failed : List Deed) (left : World)
+      (sent : List Message) (closed : List Closing) (lost : List Deed) (next : World)
       → Turns of_files first past messages closings losses world
       → OneTurn of_files world done outs failed left
       → Delivers left outs.messages outs.closing sent closed lost next
@@ -91,11 +92,11 @@ pub data Turns {A : Type 0} (of_files : block_files.Ghosts A) (first : World)
 -- Arrivals, one after the other, from the first world to the last: the bytes of each are heard, and its
 -- events are done, with all that they leave to do and to tell, before the next arrives.
 pub data Run {A : Type 0} (of_files : block_files.Ghosts A) (first : World)
-    : List ArrivalWithBytes → List Message → List Closing → List Device → World → Type 0 where
+    : List ArrivalWithBytes → List Message → List Closing → List Deed → World → Type 0 where
   none : Run of_files first [] [] [] [] first
   more : (arrivals : List ArrivalWithBytes) (messages : List Message) (closings : List Closing)
-      (losses : List Device) (world : World) (arrival : ArrivalWithBytes)
-      (more_messages : List Message) (more_closings : List Closing) (more_losses : List Device) (next : World)
+      (losses : List Deed) (world : World) (arrival : ArrivalWithBytes)
+      (more_messages : List Message) (more_closings : List Closing) (more_losses : List Deed) (next : World)
       → Run of_files first arrivals messages closings losses world
       → Turns of_files (after_hearing arrival world) (events world arrival)
       more_messages more_closings more_losses next
@@ -118,29 +119,31 @@ IsNodesTurn world (orders said ∷ left) = IsBusy world ⊎ AllTold world
 IsNodesTurn world (event ∷ left) = IsBusy world
 
 -- what was lost by a message to the node that wasn't sent
-abbrev pub LostBy : Stop → List Device → Type 0
+abbrev pub LostBy : Stop → List Deed → Type 0
 LostBy by_disk losses = ⊥
-LostBy by_link losses = losses ≡ link ∷ []
+LostBy by_link losses = losses ≡ deed.lost link ∷ []
 LostBy by_memory losses = losses ≡ []
 
 -- The turn in which a run stops, where these events are left, with what of it was sent, closed and lost.
 pub data Stops {A : Type 0} (of_files : block_files.Ghosts A) (world : World) (left : List Event)
-    (stop : Stop) (sent : List Message) (closings : List Closing) (losses : List Device) : Type 0 where
+    (stop : Stop) (sent : List Message) (closings : List Closing) (losses : List Deed) : Type 0 where
   -- a call of the index's device failed in a turn of the node
-  disk_failed : stop ≡ by_disk → IsNodesTurn world left → sent ≡ [] → closings ≡ [] → losses ≡ disk ∷ []
+  disk_failed : stop ≡ by_disk → IsNodesTurn world left → sent ≡ [] → closings ≡ []
+      → losses ≡ deed.lost disk ∷ []
       → Stops of_files world left stop sent closings losses
   -- it failed in the sift after a later move of a tip line, for which the block files had failed
-  sift_failed : stop ≡ by_disk → IsBusy world → sent ≡ [] → closings ≡ [] → losses ≡ archive ∷ disk ∷ []
+  sift_failed : stop ≡ by_disk → IsBusy world → sent ≡ [] → closings ≡ []
+      → losses ≡ deed.lost archive ∷ deed.lost disk ∷ []
       → Stops of_files world left stop sent closings losses
   -- no memory was found for a turn of the node
   no_memory : stop ≡ by_memory → IsNodesTurn world left → sent ≡ [] → closings ≡ [] → losses ≡ []
       → Stops of_files world left stop sent closings losses
   -- nor in the sift after a later move of a tip line, for which the block files had failed
-  untold : stop ≡ by_memory → IsBusy world → sent ≡ [] → closings ≡ [] → losses ≡ archive ∷ []
+  untold : stop ≡ by_memory → IsBusy world → sent ≡ [] → closings ≡ [] → losses ≡ deed.lost archive ∷ []
       → Stops of_files world left stop sent closings losses
   -- a message to the node wasn't sent, after those before it
-  unsent : (done rest : List Event) (outs : Outs) (failed : List Device) (after : World)
-      (front more : List Message) (m : Message) (lost last : List Device) (next : World)
+  unsent : (done rest : List Event) (outs : Outs) (failed : List Deed) (after : World)
+      (front more : List Message) (m : Message) (lost last : List Deed) (next : World)
       → left ≡ done ++ rest → OneTurn of_files world done outs failed after
       → outs.messages ≡ front ++ m ∷ more → m.peer ≡ 0
       → Delivers after front None sent closings lost next → LostBy stop last
@@ -148,7 +151,7 @@ pub data Stops {A : Type 0} (of_files : block_files.Ghosts A) (world : World) (l
 
 -- the block files as the turns left them, the last of which is the one in which the run stops, if it was made
 abbrev pub files_at : {A : Type 0} {of_files : block_files.Ghosts A} {world : World} {left : List Event}
-    {stop : Stop} {sent : List Message} {closings : List Closing} {losses : List Device}
+    {stop : Stop} {sent : List Message} {closings : List Closing} {losses : List Deed}
     → Stops of_files world left stop sent closings losses → ℕ → List ℕ
 files_at {world = world} (disk_failed by nodes silent closed lost) = world.side.files
 files_at {world = world} (sift_failed by busy silent closed lost) = world.side.files
@@ -165,14 +168,14 @@ MayStarve other = ⊥
 
 -- Where in an arrival a run stops, with all that was sent, closed and lost in it.
 pub data StopsIn {A : Type 0} (of_files : block_files.Ghosts A) (world : World) (arrival : ArrivalWithBytes)
-    (stop : Stop) (messages : List Message) (closings : List Closing) (losses : List Device)
+    (stop : Stop) (messages : List Message) (closings : List Closing) (losses : List Deed)
     : Type 0 where
   -- before its turns: no memory was found for it
   unheard : MayStarve arrival → stop ≡ by_memory → messages ≡ [] → closings ≡ [] → losses ≡ []
       → StopsIn of_files world arrival stop messages closings losses
   -- in a turn, after those before it
   in_turn : (done left : List Event) (past sent : List Message) (past_closings closed : List Closing)
-      (past_losses lost : List Device) (mid : World)
+      (past_losses lost : List Deed) (mid : World)
       → events world arrival ≡ done ++ left
       → Turns of_files (after_hearing arrival world) done past past_closings past_losses mid
       → Stops of_files mid left stop sent closed lost
@@ -182,7 +185,7 @@ pub data StopsIn {A : Type 0} (of_files : block_files.Ghosts A) (world : World) 
 -- the block files as the turns of the arrival left them
 abbrev pub files_left : {A : Type 0} {of_files : block_files.Ghosts A} {world : World}
     {arrival : ArrivalWithBytes} {stop : Stop}
-    {messages : List Message} {closings : List Closing} {losses : List Device}
+    {messages : List Message} {closings : List Closing} {losses : List Deed}
     → StopsIn of_files world arrival stop messages closings losses → ℕ → List ℕ
 files_left {world = world} (unheard starves by silent closed lost) = world.side.files
 files_left (in_turn done left past sent past_closings closed past_losses lost mid whole turns stops a b c) =
@@ -191,20 +194,20 @@ files_left (in_turn done left past sent past_closings closed past_losses lost mi
 -- A run that stops in its last arrival.
 pub record Halts {A : Type 0} (of_files : block_files.Ghosts A) (first : World) (stop : Stop)
     (arrivals : List ArrivalWithBytes) (messages : List Message) (closings : List Closing)
-    (losses : List Device) : Type 0 where
+    (losses : List Deed) : Type 0 where
   pub past : List ArrivalWithBytes
   pub last : ArrivalWithBytes
   pub whole : arrivals ≡ past ++ last ∷ []
   -- the arrivals before
   pub past_messages : List Message
   pub past_closings : List Closing
-  pub past_losses : List Device
+  pub past_losses : List Deed
   pub world : World
   pub run : Run of_files first past past_messages past_closings past_losses world
   -- the last
   pub sent : List Message
   pub closed : List Closing
-  pub lost : List Device
+  pub lost : List Deed
   pub stops : StopsIn of_files world last stop sent closed lost
   pub messages_are : messages ≡ past_messages ++ sent
   pub closings_are : closings ≡ past_closings ++ closed

@@ -3,7 +3,8 @@ use Rattle.std.specs.Prelude.{◌≡◌, ℕ, ◌==◌, nat_lt, Bool, true, fals
 use Rattle.std.specs.List.{AllByRecursion, list_any, flat_map}
 use Rattle.std.specs.Map.{keys_of}
 use Rattle.std.specs.Option.{option_to_list}
-use Rattle.el_outside.specs.Devices.{Device, disk}
+use Rattle.el_side.specs.Deeds as deed
+use Rattle.el_side.specs.Deeds.{Deed, disk}
 use Rattle.el_outside.specs.Trace.{ArrivalWithBytes, opened, brought, closed, quiet, ended, Message, Closing}
 use Rattle.el_outside.specs.declared.archive.Archive as block_files
 use Rattle.el_outside.specs.declared.link.Why.TheVariants as why
@@ -200,7 +201,7 @@ after_reply p reply session kept world =
 -- have the transaction that it asks for at its place; whatever they have, never with another one's bytes, nor
 -- as if the chain had none. Of a side that is unsure no more is said of what the chain and the unconfirmed
 -- set give than that it is an answer.
-abbrev pub Comes : Type 0 → Side → List ℕ → client.Session → List Device → client.Session
+abbrev pub Comes : Type 0 → Side → List ℕ → client.Session → List Deed → client.Session
     → Result LineReply OutOfMemory → Type 0
 Comes tells side bytes was losses now result =
     IsLineReply (AnswersOf tells side) bytes [] was losses now result
@@ -208,7 +209,7 @@ Comes tells side bytes was losses now result =
 -- A line of a client with this session gets its reply; or no memory was found for it, or to keep count of
 -- what the line subscribed to, and the client is closed.
 pub data IsAnswered (tells : Type 0) (world : World) (p : ℕ) (bytes : List ℕ) (session : Session)
-    (outs : Outs) (losses : List Device) (next : World) : Type 0 where
+    (outs : Outs) (losses : List Deed) (next : World) : Type 0 where
   replied : (reply : LineReply) (kept : client.Session)
       → Comes tells world.side bytes session.client losses kept (Ok reply)
       → outs ≡ outs_of_reply p reply → next ≡ after_reply p reply session kept world
@@ -224,19 +225,19 @@ pub data IsAnswered (tells : Type 0) (world : World) (p : ℕ) (bytes : List ℕ
       → IsAnswered tells world p bytes session outs losses next
 
 -- The event sends and closes this, loses nothing, and leaves that world.
-abbrev pub OnlyDoes : Outs → World → Outs → List Device → World → Type 0
+abbrev pub OnlyDoes : Outs → World → Outs → List Deed → World → Type 0
 OnlyDoes does after outs losses next = (outs ≡ does) × (next ≡ after) × (losses ≡ [])
 
 -- A line of a client with one of these sessions, the first of which counts, is answered; one of a client that
 -- is closed has no effect.
-abbrev pub Replied : Type 0 → World → ℕ → List ℕ → Option Session → Outs → List Device → World → Type 0
+abbrev pub Replied : Type 0 → World → ℕ → List ℕ → Option Session → Outs → List Deed → World → Type 0
 Replied tells world p bytes (Some session) outs losses next =
     IsAnswered tells world p bytes session outs losses next
 Replied tells world p bytes None outs losses next = OnlyDoes nothing world outs losses next
 
 -- The node gets an answer, and its side of the world becomes another one: `leads` says which may be.
-pub record IsLed (leads : NodeAnswer → List Device → Side → Type 0) (world : World) (outs : Outs)
-    (losses : List Device) (next : World) : Type 0 where
+pub record IsLed (leads : NodeAnswer → List Deed → Side → Type 0) (world : World) (outs : Outs)
+    (losses : List Deed) (next : World) : Type 0 where
   pub answer : NodeAnswer
   pub side : Side
   pub led : leads answer losses side
@@ -253,7 +254,7 @@ begun world = record world {
 -- One event: what it sends and closes, the device of each call that failed and was answered so, and the world
 -- after it. Of a tip line it is the first move; what the line leaves to do stands in the world, and is worked
 -- off before the next event. `of_files` is what the type of the block files says of them.
-abbrev pub Takes : {A : Type 0} → block_files.Ghosts A → World → Event → Outs → List Device → World
+abbrev pub Takes : {A : Type 0} → block_files.Ghosts A → World → Event → Outs → List Deed → World
     → Type 0
 -- a client joins, unless there would be too many
 Takes of_files world (joins p) outs losses next =
@@ -283,7 +284,7 @@ abbrev pub IsBusy : World → Type 0
 IsBusy world = IsMoving 0 world.side.ahead
 
 -- The next move of that line.
-abbrev pub Works : {A : Type 0} → block_files.Ghosts A → World → Outs → List Device → World → Type 0
+abbrev pub Works : {A : Type 0} → block_files.Ghosts A → World → Outs → List Deed → World → Type 0
 Works of_files world outs losses next =
     IsLed (Moving of_files world.side 0 world.side.ahead) world outs losses next
 
@@ -315,12 +316,13 @@ pub record StaysSubscribed (was now : client.Session) : Type 0 where
 
 -- The next client is told of the node's last line, once all of its moves are done; or the index's device
 -- failed while it was told, for which it is closed, and is told nothing.
-pub data Notifies (world : World) (outs : Outs) (losses : List Device) (next : World) : Type 0 where
+pub data Notifies (world : World) (outs : Outs) (losses : List Deed) (next : World) : Type 0 where
   tells : (session : Session) → next_told world ≡ Some session → outs ≡ outs_of_telling world session
       → next ≡ with_session session.peer (told world session) world → losses ≡ []
       → Notifies world outs losses next
   fails : (session : Session) → next_told world ≡ Some session → outs ≡ closes_disk session.peer
-      → next ≡ without_client session.peer world → losses ≡ disk ∷ [] → Notifies world outs losses next
+      → next ≡ without_client session.peer world → losses ≡ deed.lost disk ∷ []
+      → Notifies world outs losses next
   -- the side is unsure: it is told some tip and some statuses
   unsure : world.side.sure ≡ false → (session : Session) (texts : List (List ℕ)) (now : client.Session)
       → next_told world ≡ Some session → AllByRecursion IsNotice texts → StaysSubscribed session.client now

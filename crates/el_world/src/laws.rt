@@ -1,6 +1,6 @@
 // What holds of the definitions. Each function states a law and does nothing when it runs.
 ghost use Rattle.std.specs.Prelude.{◌≡◌, ℕ, List, [], Ok};
-ghost use Rattle.el_outside.specs.Devices.{Device};
+ghost use Rattle.el_side.specs.Deeds.{Deed};
 ghost use Rattle.el_outside.specs.Trace.{ArrivalWithBytes, Message, Closing};
 ghost use Rattle.el_sessions.specs.declared.session.Session as client;
 ghost use Rattle.el_replies.specs.declared.line.LineReply as line;
@@ -16,7 +16,7 @@ use el_outside::Archive;
 /// Where each of a client's subscriptions was told its status over a sure side, each is after a line of it that
 /// is replied to: `blockchain.scripthash.subscribe` alone changes them, and notes the status that it answers.
 pub fn replies_keep_told<A: Archive>()
-    ensures { (side : Side) (bytes : List ℕ) (was now : client.Session) (losses : List Device)
+    ensures { (side : Side) (bytes : List ℕ) (was now : client.Session) (losses : List Deed)
         (reply : line.LineReply) → IsSure side → AllTold (status side.chain side.kept) was.subs
         → Comes A.tells side bytes was losses now (Ok reply)
         → AllTold (status side.chain side.kept) now.subs }
@@ -27,11 +27,11 @@ pub fn replies_keep_told<A: Archive>()
 /// that is acknowledged. It is so of a side that is sure.
 pub fn acknowledged_is_told_last<A: Archive>()
     ensures run { (first world : World) (arrivals : List ArrivalWithBytes) (messages : List Message)
-        (closings : List Closing) (losses : List Device) → first.sessions ≡ [] → IsSure first.side
+        (closings : List Closing) (losses : List Deed) → first.sessions ≡ [] → IsSure first.side
         → Run ⟦<A as Archive>⟧ first arrivals messages closings losses world
         → IsLastTold first.side.chain messages world.side.chain }
     ensures halts { (first : World) (stop : Stop) (arrivals : List ArrivalWithBytes) (messages : List Message)
-        (closings : List Closing) (losses : List Device) → first.sessions ≡ [] → IsSure first.side
+        (closings : List Closing) (losses : List Deed) → first.sessions ≡ [] → IsSure first.side
         → (h : Halts ⟦<A as Archive>⟧ first stop arrivals messages closings losses)
         → IsLastTold first.side.chain messages (acked h.stops) }
 {}

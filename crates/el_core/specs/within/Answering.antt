@@ -3,7 +3,7 @@ use Rattle.std.specs.Prelude.{◌≡◌, ◌≤◌, List, Result, Err, OnOk}
 use Rattle.el_base.specs.declared.hash.Hash32.{Hash32}
 use Rattle.el_chain.specs.Chains.{Chain}
 use Rattle.el_outside.specs.Counts.{CountsOnly}
-use Rattle.el_outside.specs.Devices.{Device}
+use Rattle.el_side.specs.Deeds.{Deed}
 use Rattle.el_outside.specs.Files.{AllGrow}
 use Rattle.el_lines.specs.NodeAnswers.{text_of}
 use Rattle.el_lines.specs.declared.node_answer.NodeAnswer.{NodeAnswer}
@@ -21,7 +21,7 @@ use Rattle.el_core.specs.declared.out.Outs.{Outs}
 
 -- The node is answered, and the server led on from the side. What the step touched is among the touched ones,
 -- as far as clients subscribe to it.
-pub record Answered {G A : Type 0} (of : Ghosts G A) (leads : NodeAnswer → List Device → Side → Type 0)
+pub record Answered {G A : Type 0} (of : Ghosts G A) (leads : NodeAnswer → List Deed → Side → Type 0)
     (was now : Serving G A) (side : Side) (start : Chain) (outs : Outs) : Type 0 where
   pub answer : NodeAnswer
   pub moved : List Hash32
@@ -36,6 +36,7 @@ pub record Answered {G A : Type 0} (of : Ghosts G A) (leads : NodeAnswer → Lis
     moved = moved;
     changed = changed;
     holdings = now.server.holdings;
+    caches = now.server.caches;
   })
   pub covers : CoversAll was.server.clients was.server.touched moved changed now.server.touched
 

@@ -6,7 +6,7 @@ use Rattle.el_base.specs.declared.hash.Hash32.{Hash32}
 use Rattle.el_base.specs.declared.memory.OutOfMemory.{OutOfMemory}
 use Rattle.el_chain.specs.Chains.{Chain}
 use Rattle.el_mempool.specs.Standing.{StandsFor}
-use Rattle.el_outside.specs.Devices.{Device}
+use Rattle.el_side.specs.Deeds.{Deed}
 use Rattle.el_lines.specs.Lines.{LineEvent, line, lines}
 use Rattle.el_sessions.specs.Sessions.{HasAdded}
 use Rattle.el_sessions.specs.declared.session.Session as known
@@ -14,7 +14,6 @@ use Rattle.el_replies.specs.declared.line.LineReply.{LineReply}
 use Rattle.el_subs.specs.Told.{status, OthersTold}
 use Rattle.el_subs.specs.Notices.{notices, notified, IsNotice}
 use Rattle.el_side.specs.declared.holdings.Holdings.{Holdings}
-use Rattle.el_side.specs.NodeSteps.{StandsBeside}
 use Rattle.el_side.specs.Side.{Side, IsSure}
 use Rattle.el_world.specs.World as model
 use Rattle.el_world.specs.World.{client_limit, line_limit, new_client, Comes, StaysSubscribed, outs_of_reply, texts_to, closes_long, closes_memory, closes_disk, closes_surplus}
@@ -108,15 +107,15 @@ NextIsLine b = (fed : List ℕ) (given : ℕ) → IsAt b fed given → given ≤
 -- What comes of a line of a client over the side: it gets what the line is replied, and may then be closed;
 -- or no memory was found for that, or to keep count of what it subscribed to. `was` is what is kept of it for
 -- its requests, and then `now`; `rose` says by which losses the counts rose.
-pub data LineAnswered (tells : Type 0) (side : Side) (rose : List Device → Type 0) (p : ℕ) (bytes : List ℕ)
+pub data LineAnswered (tells : Type 0) (side : Side) (rose : List Deed → Type 0) (p : ℕ) (bytes : List ℕ)
     (was now : known.Session) (outs : model.Outs) (stays : Bool) : Type 0 where
-  replied : (losses : List Device) (reply : LineReply) → Comes tells side bytes was losses now (Ok reply)
+  replied : (losses : List Deed) (reply : LineReply) → Comes tells side bytes was losses now (Ok reply)
       → outs ≡ outs_of_reply p reply → stays ≡ not reply.closes → rose losses
       → LineAnswered tells side rose p bytes was now outs stays
-  starved : (losses : List Device) (e : OutOfMemory) → Comes tells side bytes was losses now (Err e)
+  starved : (losses : List Deed) (e : OutOfMemory) → Comes tells side bytes was losses now (Err e)
       → outs ≡ closes_memory p → stays ≡ false → rose losses
       → LineAnswered tells side rose p bytes was now outs stays
-  uncounted : (losses : List Device) (reply : LineReply) → Comes tells side bytes was losses now (Ok reply)
+  uncounted : (losses : List Deed) (reply : LineReply) → Comes tells side bytes was losses now (Ok reply)
       → HasAdded was.subs now.subs → outs ≡ closes_memory p → stays ≡ false → rose losses
       → LineAnswered tells side rose p bytes was now outs stays
 
@@ -126,7 +125,7 @@ left_if true c = Some c
 left_if false c = None
 
 -- what is sent or closed for an event of this client, what is then kept of it, and whether it stays
-abbrev pub Answers : Type 0 → Side → (List Device → Type 0) → ℕ → met.LineEvent → known.Session
+abbrev pub Answers : Type 0 → Side → (List Deed → Type 0) → ℕ → met.LineEvent → known.Session
     → known.Session → model.Outs → Bool → Type 0
 Answers tells side rose p (event.Line bytes) was now outs stays =
     LineAnswered tells side rose p bytes was now outs stays
@@ -134,7 +133,7 @@ Answers tells side rose p (event.TooLong limit) was now outs stays =
     (outs ≡ closes_long p) × (stays ≡ false) × rose []
 
 -- a turn of a client
-pub data ClientTurn (tells : Type 0) (side : Side) (rose : List Device → Type 0) (c : ClientState)
+pub data ClientTurn (tells : Type 0) (side : Side) (rose : List Deed → Type 0) (c : ClientState)
     (outs : Option Outs) (next : Option ClientState) : Type 0 where
   -- bytes of it were lost
   loses : (o : Outs) → c.lost ≡ true → outs ≡ Some o → outs_of o ≡ closes_memory c.peer → next ≡ None
@@ -170,7 +169,7 @@ speaker_after (Some o) None = None
 speaker_after (Some o) (Some c) = Some c.peer
 
 -- a turn of the client that speaks, if there is one
-pub data SpeakerSteps {G : Type 0} (tells : Type 0) (side : Side) (rose : List Device → Type 0) (s : State G)
+pub data SpeakerSteps {G : Type 0} (tells : Type 0) (side : Side) (rose : List Deed → Type 0) (s : State G)
     (outs : Option Outs) (next : State G) : Type 0 where
   nobody : s.speaker ≡ None → outs ≡ None → next ≡ s → rose [] → SpeakerSteps tells side rose s outs next
   gone : (p : ℕ) → s.speaker ≡ Some p → IsPlace p s.clients None → outs ≡ None
@@ -179,12 +178,13 @@ pub data SpeakerSteps {G : Type 0} (tells : Type 0) (side : Side) (rose : List D
       → slice_get s.clients i ≡ Some c → c.peer ≡ p → ClientTurn tells side rose c outs left
       → next ≡ record s {
         ledger = next.ledger;
+        caches = next.caches;
         clients = replaced i left s.clients;
         speaker = speaker_after outs left;
       } → SpeakerSteps tells side rose s outs next
 
 -- a turn where the node has nothing left: a client too many is closed, or the client that speaks has its turn
-pub data PeersTurn {G : Type 0} (tells : Type 0) (side : Side) (rose : List Device → Type 0) (s : State G)
+pub data PeersTurn {G : Type 0} (tells : Type 0) (side : Side) (rose : List Deed → Type 0) (s : State G)
     (outs : Option Outs) (next : State G) : Type 0 where
   closes : (p : ℕ) (o : Outs) → s.surplus ≡ Some p → outs ≡ Some o → outs_of o ≡ closes_surplus p
       → next ≡ record s { surplus = None } → rose [] → PeersTurn tells side rose s outs next
@@ -206,7 +206,6 @@ pub record IsToTell {G : Type 0} (stands : G → Chain → Type 0) (l : G) (hold
     (touched : List Hash32) (side : Side) (c : ClientState) : Type 0 where
   pub stood : IsSure side → stands l side.chain
   pub set : IsSure side → StandsFor holdings.pool.entries side.chain side.kept
-  pub beside : IsSure side → StandsBeside holdings side side.chain
   pub others : IsSure side → OthersTold (status side.chain side.kept) touched c.session.subs
 
 -- The client gets some notices, and subscribes to the same as before.

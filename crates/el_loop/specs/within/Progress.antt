@@ -2,8 +2,8 @@
 use Rattle.std.specs.Prelude.{◌≡◌, ◌≤◌, ◌==◌, ℕ, false, List, [], ◌++◌, length, IsTrue, Option, None, Some, Bool, if◌then◌else◌}
 use Rattle.el_outside.specs.declared.link.Link as link
 use Rattle.el_outside.specs.Counts.{RoseBy}
-use Rattle.el_outside.specs.Devices as device
-use Rattle.el_outside.specs.Devices.{Device, failures, Faults, Rose}
+use Rattle.el_side.specs.Deeds as device
+use Rattle.el_side.specs.Deeds.{Device, Deed, failures, Faults, Rose}
 use Rattle.el_outside.specs.Files.{AllGrow}
 use Rattle.el_outside.specs.Trace.{Trace, ArrivalWithBytes, Message, Closing, GoesOn, is_open}
 use Rattle.el_chain.specs.Chains.{Chain}
@@ -38,7 +38,7 @@ pub record Delivered {G : Type 0} (stands : G → Chain → Type 0) (tells : Typ
     (high : ℕ) : Type 0 where
   pub sent : List Message
   pub closings : List Closing
-  pub losses : List Device
+  pub losses : List Deed
   pub next : World
   pub delivers : Delivers world outs.messages outs.closing sent closings losses next
   pub stood : Stands stands now next rest
@@ -79,10 +79,10 @@ pub record CountedSoFar (calls calls_before calls_after : ℕ) (before after : F
   pub more : (device : Device) → before device ≤ after device
 
 module _ {G A K : Type 0} (of : AllGhosts G A K) where
-  -- how often calls of the devices have failed
+  -- how often calls of the devices have failed; there is no relay
   abbrev pub failed : Snapshot G A K → Faults
   failed now =
-      failed_beneath of.beneath (of.link.faults now.link) (beneath now.server.ledger now.files)
+      failed_beneath of.beneath (of.link.faults now.link) 0 (beneath now.server.ledger now.files)
 
   -- The world's clients are open, and the block files have what the world has of them.
   pub record IsReady (world : World) (now : Snapshot G A K) : Type 0 where
@@ -91,7 +91,7 @@ module _ {G A K : Type 0} (of : AllGhosts G A K) where
 
   -- This went over the link meanwhile, and each failed call is one of these losses.
   pub record WentOn (before now : Snapshot G A K) (arrivals : List ArrivalWithBytes) (messages : List Message)
-      (closings : List Closing) (losses : List Device) : Type 0 where
+      (closings : List Closing) (losses : List Deed) : Type 0 where
     pub trace : of.link.tells
         → GoesOn (of.link.trace before.link) (of.link.trace now.link) arrivals messages closings
     pub rose : Rose (failed before) (failed now) losses
@@ -102,7 +102,7 @@ module _ {G A K : Type 0} (of : AllGhosts G A K) where
     pub left : List Event
     pub messages : List Message
     pub closings : List Closing
-    pub losses : List Device
+    pub losses : List Deed
     pub world : World
     pub whole : all ≡ done ++ left
     pub turns : Turns of.beneath.files first done messages closings losses world
@@ -114,7 +114,7 @@ module _ {G A K : Type 0} (of : AllGhosts G A K) where
   pub record Finished (first : World) (all : List Event) (before now : Snapshot G A K) : Type 0 where
     pub messages : List Message
     pub closings : List Closing
-    pub losses : List Device
+    pub losses : List Deed
     pub world : World
     pub turns : Turns of.beneath.files first all messages closings losses world
     pub still : IsStill world
@@ -133,12 +133,12 @@ module _ {G A K : Type 0} (of : AllGhosts G A K) where
     pub whole : all ≡ done ++ left
     pub messages : List Message
     pub closings : List Closing
-    pub losses : List Device
+    pub losses : List Deed
     pub world : World
     pub turns : Turns of.beneath.files first done messages closings losses world
     pub sent : List Message
     pub closed : List Closing
-    pub lost : List Device
+    pub lost : List Deed
     pub stops : Stops of.beneath.files world left stop sent closed lost
     pub grown : of.beneath.files.tells → AllGrow (files_at stops) (of.beneath.files.bytes now.files)
     pub went : WentOn before now [] (messages ++ sent) (closings ++ closed) (losses ++ lost)
@@ -151,7 +151,7 @@ module _ {G A K : Type 0} (of : AllGhosts G A K) where
       (stop : Stop) (before now : Snapshot G A K) : Type 0 where
     pub messages : List Message
     pub closings : List Closing
-    pub losses : List Device
+    pub losses : List Deed
     pub stops : StopsIn of.beneath.files world arrival stop messages closings losses
     pub grown : of.beneath.files.tells → AllGrow (files_left stops) (of.beneath.files.bytes now.files)
     pub went : WentOn before now [] messages closings losses
@@ -164,7 +164,7 @@ module _ {G A K : Type 0} (of : AllGhosts G A K) where
     pub arrivals : List ArrivalWithBytes
     pub messages : List Message
     pub closings : List Closing
-    pub losses : List Device
+    pub losses : List Deed
     pub world : World
     pub run : Run of.beneath.files first (taken node arrivals) messages closings losses world
     pub told : AllTold world

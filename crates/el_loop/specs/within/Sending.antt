@@ -9,7 +9,7 @@ use Rattle.el_outside.specs.declared.link.SendFault.{SendFault}
 use Rattle.el_outside.specs.declared.link.SendFault.TheVariants as fault
 use Rattle.el_chain.specs.Chains.{Chain}
 use Rattle.el_world.specs.World.{World, Session, Event, is_client, without_client}
-use Rattle.el_outside.specs.Devices.{Device, failures, link}
+use Rattle.el_side.specs.Deeds.{Deed, failures, link}
 use Rattle.el_world.specs.Run.{Stop, by_disk, by_link, by_memory, lost_by, LostBy, IsDeparture, Delivers, to_others, unless_of, Closes as ToClose}
 use Rattle.el_core.specs.State.{State, Stands}
 use Rattle.el_core.specs.Turn.{GoesTo}
@@ -64,7 +64,7 @@ pub data Sent {G : Type 0} (stands : G → Chain → Type 0) (tells : Type 0) (m
 pub record Unsent {G : Type 0} (tells : Type 0) (p : ℕ) (stop : Stop) (s : State G) (before : Trace) (low : ℕ)
     (next : State G) (after : Trace) (high : ℕ) : Type 0 where
   pub node : p ≡ 0
-  pub losses : List Device
+  pub losses : List Deed
   pub lost : LostBy stop losses
   pub rose : RoseBy low high (failures link losses)
   pub same : next ≡ s
@@ -98,7 +98,7 @@ pub record CanSend {G : Type 0} (stands : G → Chain → Type 0) (tells : Type 
 -- Of these messages, which go to one peer, all were sent; or that is a client, or the one to close, which is
 -- lost, and what stood after that wasn't.
 pub data Delivering (world : World) (messages : List Message) (closing : Option Closing)
-    (sent : List Message) (closings : List Closing) (losses : List Device) (next : World)
+    (sent : List Message) (closings : List Closing) (losses : List Deed) (next : World)
     : Option ℕ → Type 0 where
   whole : sent ≡ messages → closings ≡ [] → losses ≡ [] → next ≡ world
       → Delivering world messages closing sent closings losses next None
@@ -116,7 +116,7 @@ pub record SentAll {G : Type 0} (stands : G → Chain → Type 0) (tells : Type 
     (after : Trace) (high : ℕ) : Type 0 where
   pub sent : List Message
   pub closings : List Closing
-  pub losses : List Device
+  pub losses : List Deed
   pub next : World
   pub delivers : Delivering world messages closing sent closings losses next lost
   pub to_close : lost ≡ None → tells → OpenToClose after closing
@@ -138,8 +138,8 @@ pub record StoppedSending {G : Type 0} (tells : Type 0) (world : World) (message
   pub node : m.peer ≡ 0
   pub sent : List Message
   pub closings : List Closing
-  pub losses : List Device
-  pub last : List Device
+  pub losses : List Deed
+  pub last : List Deed
   pub next : World
   pub delivers : Delivers world front None sent closings losses next
   pub lost : LostBy stop last

@@ -3,7 +3,8 @@ use Rattle.std.specs.Prelude.{◌≡◌, ◌≢◌, ◌⊎◌, ◌≤◌, ℕ, B
 use Rattle.std.specs.List.{AllByRecursion}
 use Rattle.el_base.specs.declared.hash.Hash32.{Hash32}
 use Rattle.el_outside.specs.Counts.{RoseBy}
-use Rattle.el_outside.specs.Devices.{Device, archive, failures}
+use Rattle.el_side.specs.Deeds as deed
+use Rattle.el_side.specs.Deeds.{Deed, archive, failures}
 use Rattle.el_outside.specs.Files.{AllGrow}
 use Rattle.el_outside.specs.declared.archive.Archive as archives
 use Rattle.el_tx.specs.declared.types.Tx.{Tx}
@@ -46,7 +47,7 @@ SaysRefusal (stop.Refused h f) answer = move_refused (stop.Refused h f) ≡ Some
 -- What came of a move before the set is sifted: whether it was made, what the node is answered, which script
 -- hashes it touched, and the chain then.
 pub data Tried (stood : Node → List ℕ → Type 0) (side : Side) (back : ℕ) (rest : List Node) (moved : Bool)
-    (answer : NodeAnswer) (touched : List Hash32) (losses : List Device) (chain : Chain) : Type 0 where
+    (answer : NodeAnswer) (touched : List Hash32) (losses : List Deed) (chain : Chain) : Type 0 where
   made : (blocks : Chain) → Moves stood side.chain (plan_of back rest) blocks
       → AreTouched (plan_of back rest) side.chain blocks touched → moved ≡ true
       → chain ≡ shorter back side.chain ++ blocks → answer ≡ say.At (tip_of chain) (height_of chain)
@@ -55,12 +56,12 @@ pub data Tried (stood : Node → List ℕ → Type 0) (side : Side) (back : ℕ)
       → chain ≡ side.chain → move_refused e ≡ Some answer → touched ≡ [] → losses ≡ []
       → Tried stood side back rest moved answer touched losses chain
   failed : moved ≡ false → chain ≡ side.chain → answer ≡ say.Refused refusal.Archive → touched ≡ []
-      → losses ≡ archive ∷ [] → Tried stood side back rest moved answer touched losses chain
+      → losses ≡ deed.lost archive ∷ [] → Tried stood side back rest moved answer touched losses chain
 
 -- A move was tried from the side.
 pub record Tries {G A : Type 0} (of : Ghosts G A) (was now : Beneath G A) (side : Side) (back : ℕ)
     (rest : List Node) (made : Made) : Type 0 where
-  pub losses : List Device
+  pub losses : List Deed
   pub chain : Chain
   pub tried : Tried (StoodAt of.files side.files (of.files.bytes now.files)) side back rest
       made.moved made.answer made.touched losses chain
@@ -69,15 +70,15 @@ pub record Tries {G A : Type 0} (of : Ghosts G A) (was now : Beneath G A) (side 
   pub rose : Lost of was now losses
 
 -- what the node is told of a move that was tried, whatever the ledger stands for, and what the devices lost
-pub data SaysMove (rest : List Node) (made : Made) (losses : List Device) : Type 0 where
+pub data SaysMove (rest : List Node) (made : Made) (losses : List Deed) : Type 0 where
   of_ledger : MayTellMove rest made.answer made.left → losses ≡ [] → SaysMove rest made losses
-  files_failed : made.answer ≡ say.Refused refusal.Archive → made.left ≡ [] → losses ≡ archive ∷ []
+  files_failed : made.answer ≡ say.Refused refusal.Archive → made.left ≡ [] → losses ≡ deed.lost archive ∷ []
       → SaysMove rest made losses
 
 -- The move was tried, which says so, and the counts rose by what was lost.
 pub record TellsMove {G A : Type 0} (of : Ghosts G A) (was now : Beneath G A) (rest : List Node) (made : Made)
     : Type 0 where
-  pub losses : List Device
+  pub losses : List Deed
   pub says : SaysMove rest made losses
   pub rose : Lost of was now losses
 
@@ -121,7 +122,7 @@ NamesItself other = ⊥
 -- A place was looked at, and these are the headers that are then found.
 pub record Looked {A : Type 0} (of_files : archives.Ghosts A) (files_old files_new : A) (side : Side)
     (file at : ℕ) (answer : NodeAnswer) (found : List Node) : Type 0 where
-  pub losses : List Device
+  pub losses : List Deed
   pub looks : Looks of_files side file at answer losses
       (record side { found = found; files = of_files.bytes files_new })
   pub rose : RoseBy (of_files.faults files_old) (of_files.faults files_new) (failures archive losses)

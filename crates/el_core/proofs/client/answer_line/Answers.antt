@@ -17,7 +17,7 @@ returns-clause-answered g c = rw (← c.client.view_is) (λ side at'.
     let r = c.reply_line.ensures.answered side at' in
     let peer_is = c.peer-peer.ensures ∙ sym (ap (λ (d : ClientState). d.peer) c.client.view_is) in
     let comes = r.done [] in
-    let lost = lost_of (ghosts g.G.Ledger g.A.Archive) c.args.ledger.now c.reply_line.new.ledger c.args.archive.now c.reply_line.new.archive r.lost r.no_link r.archive_count r.disk_count in
+    let lost = lost_of (ghosts g.G.Ledger g.A.Archive) c.args.ledger.now c.reply_line.new.ledger c.args.archive.now c.reply_line.new.archive r.lost r.no_link r.no_relay r.archive_count r.disk_count in
     elim c.match-reply_line.branch [
       | in-Ok-reply_line w ↦ rw w.result-is
           (line_replied _ side _ c.client.inside.peer _ _ _ r.lost c.reply_line.result _ _ w.in-Ok-reply_line.reply w.in-Ok-reply_line.is comes

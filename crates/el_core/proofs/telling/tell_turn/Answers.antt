@@ -1,5 +1,5 @@
 use Rattle.std.proofs.Common.{Some, ap}
-use Rattle.el_outside.proofs.Devices.{rose_still}
+use Rattle.el_side.proofs.Deeds.{rose_still}
 use Rattle.el_side.proofs.Settled.{by_sure}
 use Rattle.el_core.specs.within.Clients.{tells, unsure}
 use Rattle.el_core.proofs.telling.tell_turn.Goals as goal

@@ -3,7 +3,7 @@ use Rattle.el_outside.specs.Trace.{with_bytes}
 use Rattle.el_outside.proofs.Traces.{all_grow_none, all_grow_more}
 use Rattle.el_loop.proofs.Runs.{going_none, one_further, going_more, told_ended, told_spent, told_failed, told_stopped, told_halt, enters}
 use Rattle.el_loop.proofs.Numbers.{above_next, no_less, up_to_next}
-use Rattle.el_outside.proofs.Devices.{each_more}
+use Rattle.el_side.proofs.Deeds.{each_more}
 use Rattle.el_loop.proofs.Rises.{counted_none, counted_more, caused_end, caused_next, caused_halt}
 use Rattle.el_side.specs.Beneath.{ghosts}
 use Rattle.el_loop.specs.within.Progress.{taken_one, all_ghosts, snapshot}
@@ -145,7 +145,7 @@ loop-turn-preserved g c = record {
       (rw c.serve_arrival.ensures.same_calls c.next.ensures.called)
       (each_more _ _ (let a = c.in-Ok.ensures.cause.uncounted in
       let b = c.serve_arrival.ensures.link_counts.more in omega arith)
-      c.serve_arrival.ensures.archive_more c.serve_arrival.ensures.disk_counts.more);
+      c.serve_arrival.ensures.archive_more c.serve_arrival.ensures.disk_counts.more (omega arith));
   keeps = λ t. all_grow_more _ _ _ (c.loop-turn.invariant.keeps t) (c.serve_arrival.ensures.keeps t);
   beside = λ told. c.serve_arrival.ensures.beside told ∙ c.loop-turn.invariant.beside told;
 }
@@ -153,7 +153,7 @@ loop-turn-preserved g c = record {
 pub returns-in_default-clause-causes : goal.returns-in_default-clause-causes
 returns-in_default-clause-causes g c =
     caused_next _ _ _ _ _ _ _ _ c.loop-turn.invariant.counted c.loop-turn-test.true c.next.ensures.called
-    c.in_default.ensures.cause.counted refl refl
+    c.in_default.ensures.cause.counted refl refl refl
 
 pub returns-in-Err-clause-causes : goal.returns-in-Err-clause-causes
 returns-in-Err-clause-causes g c =
@@ -161,7 +161,7 @@ returns-in-Err-clause-causes g c =
     c.loop-turn.invariant.counted c.loop-turn-test.true
     (rw c.serve_arrival.ensures.same_calls c.next.ensures.called) c.in-Err.is
     (rw c.in-Ok.ensures.cause.uncounted at c.serve_arrival.ensures.link_counts)
-    c.serve_arrival.ensures.archive_more c.serve_arrival.ensures.disk_counts)
+    c.serve_arrival.ensures.archive_more c.serve_arrival.ensures.disk_counts (omega arith))
 
 pub returns-then-ends-clause-causes : goal.returns-then-ends-clause-causes
 returns-then-ends-clause-causes g c =
@@ -170,7 +170,7 @@ returns-then-ends-clause-causes g c =
     (rw c.serve_arrival.ensures.same_calls c.next.ensures.called)
     (each_more _ _ (let a = c.in-Ok.ensures.cause.uncounted in
     let b = c.serve_arrival.ensures.link_counts.more in omega arith)
-    c.serve_arrival.ensures.archive_more c.serve_arrival.ensures.disk_counts.more)) (omega arith)
+    c.serve_arrival.ensures.archive_more c.serve_arrival.ensures.disk_counts.more (omega arith))) (omega arith)
     refl (λ e. absurd cc)
 
 pub returns-clause-causes : goal.returns-clause-causes

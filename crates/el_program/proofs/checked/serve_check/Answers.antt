@@ -7,6 +7,7 @@ use Rattle.el_program.specs.declared.status.Status.TheVariants as status
 use Rattle.el_program.specs.within.Unread.{check_status}
 use Rattle.el_program.proofs.Checks.{summary_sent, nothing_sent, sent_caused, check_ends, check_counts}
 use Rattle.el_program.proofs.FreshDisks.{fresh_index}
+use Rattle.el_program.proofs.IndexDisks.{means_stands, beyond_new}
 use Rattle.el_program.proofs.Rises.{unopened_caused}
 use Rattle.el_program.proofs.checked.serve_check.Goals as goal
 
@@ -41,11 +42,12 @@ returns-in-Ok-checked-clause-ends g c = λ turns of_files told fresh.
       line = ap summary_line k.sums;
       made = λ differ. c.check_leads_along_both_branches.ensures c.args.count c.requires.some c.requires.few differ
           k.way;
-      leaves = λ image now. inl (k.leaves told image (told, rw c.into_disk-disk.ensures.disk at now));
+      leaves = λ image now. inl (means_stands regtest_magic image _
+          (k.leaves told image (told, rw c.into_disk-disk.ensures.disk at now)));
       between = disk_below (k.between told).0;
       later = (let a = c.in-Ok.ensures.later told in let b = (k.between told).1 in omega arith);
       earlier = rw c.into_disk-disk.ensures.disk ((k.between told).2);
-      stood = λ image now. inl ((k.between told).3 image (told, now));
+      stood = λ image now. inl (means_stands regtest_magic image _ ((k.between told).3 image (told, now)));
     })
 
 pub returns-in-Ok-checked-clause-causes : goal.returns-in-Ok-checked-clause-causes
@@ -57,7 +59,7 @@ returns-in-Ok-checked-clause-causes g c = λ turns of_files. sent_caused turns _
 
 pub returns-in-Ok-checked-clause-others : goal.returns-in-Ok-checked-clause-others
 returns-in-Ok-checked-clause-others g c = λ told f beyond.
-    sym (c.into_disk-disk.ensures.beside f beyond)
+    sym (c.into_disk-disk.ensures.beside f (beyond_new f beyond))
     ∙ ap (λ (image : Image). image f) (c.check_chain-checked.ensures.beside told)
     ∙ c.in-Ok.ensures.beside told f beyond
 
@@ -77,6 +79,6 @@ returns-in-Err-checked-clause-causes g c = λ turns of_files.
 
 pub returns-in-Err-checked-clause-others : goal.returns-in-Err-checked-clause-others
 returns-in-Err-checked-clause-others g c = λ told f beyond.
-    sym (c.into_disk-disk.ensures.beside f beyond)
+    sym (c.into_disk-disk.ensures.beside f (beyond_new f beyond))
     ∙ ap (λ (image : Image). image f) (c.check_chain-checked.ensures.beside told)
     ∙ c.in-Ok.ensures.beside told f beyond

@@ -7,12 +7,12 @@ use Rattle.el_program.proofs.Servings.{only_served, only_once, same_networks}
 use Rattle.el_program.proofs.complete.calls_without_failures_are_complete.Goals as goal
 
 pub returns-clause-serve : goal.returns-clause-serve
-returns-clause-serve g c = λ l magic was flight chain call serves told alone is has none.
+returns-clause-serve g c = λ l magic was flight chain call serves told shows is has none.
     let calm : Calm g.A.Archive = record {
       run = c.runs_are_undisturbed.ensures.run;
       halts = c.runs_are_undisturbed.ensures.halts;
       stay = c.records_stay.ensures.records;
-      moved = c.moves_have_records.ensures.unpadded;
+      moved = c.moves_have_records.ensures.written;
     } in
     let e = call.served (λ count check. serve_no_check serves.is_serve check) was flight (certain chain)
     (λ sure m also. rw (same_networks also serves) is) in
@@ -20,17 +20,17 @@ returns-clause-serve g c = λ l magic was flight chain call serves told alone is
       e.0,
       e.1,
       ends,
-      index_complete g.A.Archive calm told alone _ none e.0 magic serves.said.settings.limits chain
-          (LeavesOneOf g.D.Disk magic l.after.disk) l.before.files l.after.files has was flight l.status ends,
+      index_complete g.A.Archive calm told _ none e.0 magic serves.said.settings.limits chain
+          (LeavesOneOf g.D.Disk magic l.after.disk) l.before.files l.after.files has shows was flight l.status ends,
     )
 
 pub returns-clause-once : goal.returns-clause-once
-returns-clause-once g c = λ l magic call asks told alone none.
+returns-clause-once g c = λ l magic call asks told shows none.
     let calm : Calm g.A.Archive = record {
       run = c.runs_are_undisturbed.ensures.run;
       halts = c.runs_are_undisturbed.ensures.halts;
       stay = c.records_stay.ensures.records;
-      moved = c.moves_have_records.ensures.unpadded;
+      moved = c.moves_have_records.ensures.written;
     } in
     let no_index : IndexChain = record { sure = false; chain = [] } in
     let e = call.served (λ count check. once_no_check asks.is_once check) [] [] no_index
@@ -39,6 +39,6 @@ returns-clause-once g c = λ l magic call asks told alone none.
       e.0,
       e.1,
       ends,
-      once_complete g.A.Archive calm told alone _ none e.0 magic (g.A.Archive.bytes l.before.files)
-          (g.A.Archive.bytes l.after.files) l.status ends,
+      once_complete g.A.Archive calm told _ none e.0 magic (g.A.Archive.bytes l.before.files)
+          (g.A.Archive.bytes l.after.files) shows l.status ends,
     )

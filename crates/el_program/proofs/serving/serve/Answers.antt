@@ -8,12 +8,18 @@ use Rattle.el_words.specs.declared.words.Command.TheVariants as command
 use Rattle.el_words.proofs.OneCommand.{no_command}
 use Rattle.el_program.specs.Ends.{usage, once}
 use Rattle.el_loop.specs.Runs.{no_traffic}
-use Rattle.el_outside.proofs.Devices.{all_rose_none}
+use Rattle.el_side.proofs.Deeds.{all_rose_none}
 use Rattle.el_program.proofs.Checks.{serve_no_check, once_no_check, one_check}
 use Rattle.el_program.proofs.IndexDisks.{unchanged}
 use Rattle.el_program.proofs.Rises.{caused_none}
-use Rattle.el_program.proofs.Servings.{is_serve, is_once, magic_of, network_in, served_with}
+use Rattle.el_program.proofs.Servings.{is_serve, is_once, magic_of, network_in, bits_in, served_with}
 use Rattle.el_program.proofs.serving.serve.Goals as goal
+
+pub serve_network-requires-clause-least : goal.serve_network-requires-clause-least
+serve_network-requires-clause-least g c = λ κs lives. (bits_in c.in-Some.ensures.found).0
+
+pub serve_network-requires-clause-most : goal.serve_network-requires-clause-most
+serve_network-requires-clause-most g c = λ κs lives. (bits_in c.in-Some.ensures.found).1
 
 pub returns-in-Some-clause-ends : goal.returns-in-Some-clause-ends
 returns-in-Some-clause-ends g c = record {

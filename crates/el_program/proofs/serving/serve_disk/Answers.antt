@@ -2,7 +2,7 @@ use Rattle.std.proofs.Common.{◌≡◌, ◌∙◌, true, inr, inl, sym, ap}
 use Rattle.el_outside.specs.Disk.{Image}
 use Rattle.el_outside.proofs.Traces.{goes_none}
 use Rattle.el_pages.specs.Stores.{disk_below, beside_in}
-use Rattle.el_program.proofs.IndexDisks.{unopened}
+use Rattle.el_program.proofs.IndexDisks.{unopened, means_one, beyond_new}
 use Rattle.el_program.specs.IndexDisks.{LeavesOneOf}
 use Rattle.el_loop.specs.Runs.{no_traffic}
 use Rattle.el_program.proofs.Rises.{unopened_caused}
@@ -19,7 +19,8 @@ returns-in-Ok-clause-ends g c = λ was flight index is.
       r.0,
       r.1,
       inr (serve_told _ _ _ (λ losses rose. rose) _ _ (index.sure ≡ true)
-          (λ sure acked flight' left image now. left (is sure).told image ((is sure).told, now))
+          (λ sure acked flight' left image now. means_one g.N.NetworkMagic.magic acked flight' image
+          (left (is sure).told image ((is sure).told, now)))
           g.A.Archive _ _ index _ _ r.0 _ (λ sure. sure) r.2),
     )
 
@@ -62,7 +63,7 @@ returns-in-Err-clause-kept_counts g c = λ bad. c.in-Err.ensures.others_uncounte
 
 pub returns-in-Ok-clause-others : goal.returns-in-Ok-clause-others
 returns-in-Ok-clause-others g c = λ told f beyond.
-    let back = c.into_disk.ensures.beside f beyond in
+    let back = c.into_disk.ensures.beside f (beyond_new f beyond) in
     sym back ∙ ap (λ s. beside_in (g.D.Disk.seen (disk_below s)) f) c.into_rows.ensures
     ∙ ap (λ (image : Image). image f) (c.serve_index-status.ensures.beside told) ∙ c.in-Ok.ensures.beside told f beyond
 

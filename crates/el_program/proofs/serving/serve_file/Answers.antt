@@ -1,8 +1,8 @@
 use Rattle.std.proofs.Common.{true, ap, refl, Err, arith}
 use Rattle.el_outside.proofs.Traces.{goes_none, all_grow_more}
 use Rattle.el_plain.specs.Plain.{IsPlain}
-use Rattle.el_outside.specs.Devices as device
-use Rattle.el_outside.specs.Devices.{faults}
+use Rattle.el_side.specs.Deeds as device
+use Rattle.el_side.specs.Deeds.{faults}
 use Rattle.el_loop.specs.Runs.{no_traffic}
 use Rattle.el_program.proofs.Rises.{caused_still, unread_caused, run_caused, serves}
 use Rattle.el_program.proofs.Servings.{served_once, ends_told, with_disk, unread_ends}
@@ -13,7 +13,7 @@ returns-in-Ok-clause-ends g c = λ disk.
     let o = c.in-Ok.ensures.opened in
     let plain : IsPlain c.in-Ok.ledger c.in-Ok.ledger = record { is = refl; good = o.1.good } in
     let r = rw (o.2, c.in-Ok.ensures.only_reads.uncounted, c.greatest_limits.ensures) at
-    (c.serve_from-end.ensures.ends true c.in-Ok.ledger (λ sure. plain)) in (
+    (c.serve_from-end.ensures.ends true c.in-Ok.ledger (λ sure. plain) (λ sure. o.3)) in (
       r.0,
       r.1,
       rw c.of_end.ensures (served_once g.A.Archive c.args.magic _ _ _ r.0 _
@@ -25,9 +25,9 @@ returns-in-Ok-clause-ends g c = λ disk.
             read = o.1;
             grows = c.serve_from-end.ensures.keeps;
             run = ends_told _ (faults (g.K.Link.faults c.args.link.now)
-                (g.A.Archive.faults c.args.archive.now) disk)
+                (g.A.Archive.faults c.args.archive.now) disk 0)
                 (faults (g.K.Link.faults c.serve_from-end.new.link)
-                (g.A.Archive.faults c.serve_from-end.new.archive) disk)
+                (g.A.Archive.faults c.serve_from-end.new.archive) disk 0)
                 (with_disk _ _ _ _ disk)
                 _ _ (Unit {0}) (λ sure acked flight left. tt) g.A.Archive _ _ _ r.0 _ (λ sure. tt) r.2;
           })),

@@ -10,7 +10,8 @@ returns-in-Ok-clause-ends g c = λ index stood.
     let o = c.in-Ok.ensures.opened index stood in
     let r = rw (o.4, c.in-Ok.ensures.only_reads.uncounted, c.in-Ok.ensures.cause.uncounted) at
     (c.serve_from-end.ensures.ends index.sure index.chain
-    (λ sure. c.in-Ok.ensures.quiet.stays.still_stands index.chain (stood sure))) in (
+    (λ sure. c.in-Ok.ensures.quiet.stays.still_stands index.chain (stood sure))
+    (λ sure. c.in-Ok.ensures.caches index.chain (stood sure))) in (
       r.0,
       r.1,
       rw c.of_end.ensures (served_ends g.A.Archive c.args.magic

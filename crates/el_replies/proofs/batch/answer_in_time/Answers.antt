@@ -27,4 +27,4 @@ returns-in_err-room-clause-answered g c = λ side settled.
     none_lost _ _ _ (λ before. failed c.from_residual.result _ _ _ c.from_residual.ensures.1 refl)
 
 pub returns-in_err-room-clause-rows : goal.returns-in_err-room-clause-rows
-returns-in_err-room-clause-rows g c = λ chain stood. none_within _ _ (inl refl)
+returns-in_err-room-clause-rows g c = λ chain stood kept. none_within _ _ (inl refl)

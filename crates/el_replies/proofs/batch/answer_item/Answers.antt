@@ -52,11 +52,11 @@ returns-in-Invalid-clause-answered g c = λ side settled.
     c.refuse-in-Invalid.ensures.added))
 
 pub returns-then-replies-gt-BATCH_LIMIT-clause-rows : goal.returns-then-replies-gt-BATCH_LIMIT-clause-rows
-returns-then-replies-gt-BATCH_LIMIT-clause-rows g c = λ chain stood. none_within _ _ (no_item chain _ c.args.item)
+returns-then-replies-gt-BATCH_LIMIT-clause-rows g c = λ chain stood kept. none_within _ _ (no_item chain _ c.args.item)
 
 pub returns-else-replies-gt-BATCH_LIMIT-clause-rows : goal.returns-else-replies-gt-BATCH_LIMIT-clause-rows
-returns-else-replies-gt-BATCH_LIMIT-clause-rows g c = λ chain stood.
-    of_request chain _ c.args.item c.in-Good.request _ _ c.in-Good.is (c.answer_in_time.ensures.rows chain stood)
+returns-else-replies-gt-BATCH_LIMIT-clause-rows g c = λ chain stood kept.
+    of_request chain _ c.args.item c.in-Good.request _ _ c.in-Good.is (c.answer_in_time.ensures.rows chain stood kept)
 
 pub returns-in-Invalid-clause-rows : goal.returns-in-Invalid-clause-rows
-returns-in-Invalid-clause-rows g c = λ chain stood. none_within _ _ (no_item chain _ c.args.item)
+returns-in-Invalid-clause-rows g c = λ chain stood kept. none_within _ _ (no_item chain _ c.args.item)

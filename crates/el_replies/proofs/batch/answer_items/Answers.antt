@@ -21,7 +21,8 @@ loop-item-init g c =
       edits = edits_same c.args.session.now.subs;
       disk_more = omega arith;
       end = c.requires.end;
-      rows = λ chain stood. rows.begins chain _ c.args.elements.now _;
+      rows = λ chain stood kept. rows.begins chain _ c.args.elements.now _;
+      caches = λ chain stood kept. kept;
       archive_more = omega arith;
       so_far = λ side settled.
           let answers = AnswersOf g.A.Archive.tells side in
@@ -42,16 +43,19 @@ loop-item-preserved g c =
       edits = edits_more _ _ _ c.loop-item.invariant.edits c.answer_item.ensures.edits;
       disk_more = omega (arith, c.loop-item.invariant.disk_more, c.answer_item.ensures.disk_more);
       end = c.in_ok-answer_item.ensures.end;
-      rows = λ chain stood.
+      rows = λ chain stood kept.
           let q = c.loop-item.invariant.quiet in
           rows.goes_on chain _ c.in-Some.item _ _ c.args.elements.now _ _ _ c.in-Some.ensures.item
-          (c.loop-item.invariant.rows chain stood)
-          (rw q.stays.same_buckets at (c.in_ok-answer_item.ensures.rows chain (q.stays.still_stands chain stood)));
+          (c.loop-item.invariant.rows chain stood kept)
+          (rw q.stays.same_buckets at (c.in_ok-answer_item.ensures.rows chain (q.stays.still_stands chain stood)
+          (c.loop-item.invariant.caches chain stood kept)));
+      caches = λ chain stood kept.
+          c.answer_item.ensures.caches chain (c.loop-item.invariant.quiet.stays.still_stands chain stood) (c.loop-item.invariant.caches chain stood kept);
       archive_more = omega (arith, c.loop-item.invariant.archive_more, c.answer_item.ensures.archive_more);
       so_far = λ side settled.
           let answers = AnswersOf g.A.Archive.tells side in
           let still = settled_on (ghosts g.G.Ledger g.A.Archive) _ (beneath c.loop-item.ledger c.loop-item.archive)
-          c.args.holdings.now side c.loop-item.invariant.quiet c.loop-item.invariant.grows settled in
+          c.args.holdings.now c.args.caches.now c.loop-item.caches side c.loop-item.invariant.quiet c.loop-item.invariant.grows c.loop-item.invariant.caches settled in
           both _ _ _ (λ x y z h k. (
             goes_on answers c.in-Some.item _ _ c.args.elements.now y z _ _ _ _ x c.args.session.now
                 (replies_of c.args.replies.now) c.in-Some.ensures.item h.0 k,
@@ -74,7 +78,7 @@ pub returns-in_err-answer_item-clause-answered : goal.returns-in_err-answer_item
 returns-in_err-answer_item-clause-answered g c = λ side settled.
     let answers = AnswersOf g.A.Archive.tells side in
     let still = settled_on (ghosts g.G.Ledger g.A.Archive) _ (beneath c.loop-item.ledger c.loop-item.archive)
-    c.args.holdings.now side c.loop-item.invariant.quiet c.loop-item.invariant.grows settled in
+    c.args.holdings.now c.args.caches.now c.loop-item.caches side c.loop-item.invariant.quiet c.loop-item.invariant.grows c.loop-item.invariant.caches settled in
     both _ _ _ (λ x y z h k. failed c.from_residual.result _ _ _ c.from_residual.ensures.1
     (cut_here answers c.in-Some.item _ _ c.args.elements.now y z _ _ x c.args.session.now
     (replies_of c.args.replies.now) c.in-Some.ensures.item h.1 k))
@@ -95,11 +99,16 @@ pub returns-in_err-answer_item-clause-edits : goal.returns-in_err-answer_item-cl
 returns-in_err-answer_item-clause-edits g c = edits_more _ _ _ c.loop-item.invariant.edits c.in_err-answer_item.ensures.edits
 
 pub returns-clause-rows : goal.returns-clause-rows
-returns-clause-rows g c = λ chain stood. rows.ends chain _ _ c.args.elements.now _ _ (c.loop-item.invariant.rows chain stood)
+returns-clause-rows g c = λ chain stood kept. rows.ends chain _ _ c.args.elements.now _ _ (c.loop-item.invariant.rows chain stood kept)
 
 pub returns-in_err-answer_item-clause-rows : goal.returns-in_err-answer_item-clause-rows
-returns-in_err-answer_item-clause-rows g c = λ chain stood.
+returns-in_err-answer_item-clause-rows g c = λ chain stood kept.
     let q = c.loop-item.invariant.quiet in
     rows.ends chain _ _ c.args.elements.now _ _ (rows.goes_on chain _ c.in-Some.item _ _ c.args.elements.now _ _ _ c.in-Some.ensures.item
-    (c.loop-item.invariant.rows chain stood)
-    (rw q.stays.same_buckets at (c.in_err-answer_item.ensures.rows chain (q.stays.still_stands chain stood))))
+    (c.loop-item.invariant.rows chain stood kept)
+    (rw q.stays.same_buckets at (c.in_err-answer_item.ensures.rows chain (q.stays.still_stands chain stood)
+    (c.loop-item.invariant.caches chain stood kept))))
+
+pub returns-in_err-answer_item-clause-caches : goal.returns-in_err-answer_item-clause-caches
+returns-in_err-answer_item-clause-caches g c = λ chain stood kept.
+    c.in_err-answer_item.ensures.caches chain (c.loop-item.invariant.quiet.stays.still_stands chain stood) (c.loop-item.invariant.caches chain stood kept)

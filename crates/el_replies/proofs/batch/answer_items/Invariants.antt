@@ -1,6 +1,7 @@
 use Rattle.std.proofs.Common.{◌≤◌, length}
 use Rattle.el_outside.specs.Files.{AllGrow}
 use Rattle.el_side.specs.Beneath.{beneath, ghosts}
+use Rattle.el_side.specs.Caching.{CachesStand, CachesStay}
 use Rattle.el_side.specs.NodeSteps.{IsSettled}
 use Rattle.el_side.specs.Side.{Side}
 use Rattle.el_chain.specs.Chains.{Chain}
@@ -26,11 +27,12 @@ invariant-loop-item g l =
       edits : Edits l.initial.session.subs l.session.subs;
       disk_more : d.faults l.initial.ledger ≤ d.faults l.ledger;
       end : HasEnd l.replies;
-      rows : (chain : Chain) → d.stands l.initial.ledger chain
+      caches : CachesStay d l.initial.ledger l.initial.caches l.caches;
+      rows : (chain : Chain) → d.stands l.initial.ledger chain → CachesStand l.initial.caches chain chain
           → ReadSoFar chain (d.buckets l.initial.ledger) l.elements l.initial.elements (d.reads l.initial.ledger) (d.reads l.ledger);
       archive_more : a.faults l.initial.archive ≤ a.faults l.archive;
       so_far : (side : Side)
-          → IsSettled (ghosts d a) (beneath l.initial.ledger l.initial.archive) l.holdings side → Loses (d.faults l.initial.ledger) (d.faults l.ledger) (a.faults l.initial.archive)
+          → IsSettled (ghosts d a) (beneath l.initial.ledger l.initial.archive) l.holdings l.initial.caches side → Loses (d.faults l.initial.ledger) (d.faults l.ledger) (a.faults l.initial.archive)
           (a.faults l.archive)
           (λ before after.
           let answers = AnswersOf a.tells side in

@@ -28,24 +28,24 @@ returns-in-Ok-Batch-clause-answered g c = λ side settled.
     (c.batch_reply.ensures.answered side settled)
 
 pub returns-in-Ok-One-clause-rows : goal.returns-in-Ok-One-clause-rows
-returns-in-Ok-One-clause-rows g c = λ chain stood.
+returns-in-Ok-One-clause-rows g c = λ chain stood kept.
     let says = c.in-Ok-One.ensures.says in
     let is = c.in-Ok-One.field-0-is in
     let said : line_says c.args.line.now ≡ Ok (One c.in-Ok-One.request) = cc in
-    of_line chain _ c.args.line.now _ _ _ said (c.one_reply.ensures.rows chain stood)
+    of_line chain _ c.args.line.now _ _ _ said (c.one_reply.ensures.rows chain stood kept)
 
 pub returns-in-Ok-Batch-clause-rows : goal.returns-in-Ok-Batch-clause-rows
-returns-in-Ok-Batch-clause-rows g c = λ chain stood.
+returns-in-Ok-Batch-clause-rows g c = λ chain stood kept.
     let says = c.in-Ok-Batch.ensures.says in
     let is = c.in-Ok-Batch.field-0-is in
     let said : line_says c.args.line.now ≡ Ok (Batch c.in-Ok-Batch.elements) = cc in
-    of_line chain _ c.args.line.now _ _ _ said (c.batch_reply.ensures.rows chain stood)
+    of_line chain _ c.args.line.now _ _ _ said (c.batch_reply.ensures.rows chain stood kept)
 
 pub returns-in-Err-Parse-clause-rows : goal.returns-in-Err-Parse-clause-rows
-returns-in-Err-Parse-clause-rows g c = λ chain stood. no_line chain _ (line_says c.args.line.now) _
+returns-in-Err-Parse-clause-rows g c = λ chain stood kept. no_line chain _ (line_says c.args.line.now) _
 
 pub returns-in-Err-Invalid-clause-rows : goal.returns-in-Err-Invalid-clause-rows
-returns-in-Err-Invalid-clause-rows g c = λ chain stood. no_line chain _ (line_says c.args.line.now) _
+returns-in-Err-Invalid-clause-rows g c = λ chain stood kept. no_line chain _ (line_says c.args.line.now) _
 
 pub returns-in-Err-Memory-clause-rows : goal.returns-in-Err-Memory-clause-rows
-returns-in-Err-Memory-clause-rows g c = λ chain stood. no_line chain _ (line_says c.args.line.now) _
+returns-in-Err-Memory-clause-rows g c = λ chain stood kept. no_line chain _ (line_says c.args.line.now) _

@@ -24,8 +24,8 @@ returns-in-Some-clause-answered g c = λ side settled.
       alone = answer.alone;
       unanswered = answer.unanswered;
       of_index = λ sure none.
-          rw (← settled.found) (answer.of_index side.chain side.kept (settled.stood sure) (settled.set sure) none);
-      of_files = λ is. rw (← settled.found) (answer.answer side.chain side.kept (settled.stood is.0) (settled.set is.0)
+          rw (← settled.found) (answer.of_index side.chain side.kept (settled.stood sure) (settled.set sure) (settled.computed sure) none);
+      of_files = λ is. rw (← settled.found) (answer.answer side.chain side.kept (settled.stood is.0) (settled.set is.0) (settled.computed is.0)
           is.1 (asked_stays _ _ side.chain c.in-Ok.call (all_grow_more _ _ _ (settled.told is.1) (answer.grows is.1)) is.2));
       own = λ sure reads. answer.own side.chain side.kept (settled.stood sure) (settled.set sure) reads;
       still = λ reads. answer.still side.kept reads;
@@ -52,14 +52,14 @@ returns-in-None-clause-archive_more g c =
     (never_less _ _ _ _ c.answer-given.result c.answer-given.ensures.counted).1
 
 pub returns-in-Err-clause-rows : goal.returns-in-Err-clause-rows
-returns-in-Err-clause-rows g c = λ chain stood. none_within _ _ (inl refl)
+returns-in-Err-clause-rows g c = λ chain stood kept. none_within _ _ (inl refl)
 
 pub returns-in-Some-clause-rows : goal.returns-in-Some-clause-rows
-returns-in-Some-clause-rows g c = λ chain stood.
+returns-in-Some-clause-rows g c = λ chain stood kept.
     let P : List ℕ → Type 0 = λ n. IsCalled n c.args.request.now.params (Ok c.in-Ok.call) in
-    (_, inr (c.in-Ok.call, subst P c.as_str.ensures c.in-Ok.ensures, refl), c.answer-given.ensures.rows chain stood)
+    (_, inr (c.in-Ok.call, subst P c.as_str.ensures c.in-Ok.ensures, refl), c.answer-given.ensures.rows chain stood kept)
 
 pub returns-in-None-clause-rows : goal.returns-in-None-clause-rows
-returns-in-None-clause-rows g c = λ chain stood.
+returns-in-None-clause-rows g c = λ chain stood kept.
     let P : List ℕ → Type 0 = λ n. IsCalled n c.args.request.now.params (Ok c.in-Ok.call) in
-    (_, inr (c.in-Ok.call, subst P c.as_str.ensures c.in-Ok.ensures, refl), c.answer-given.ensures.rows chain stood)
+    (_, inr (c.in-Ok.call, subst P c.as_str.ensures c.in-Ok.ensures, refl), c.answer-given.ensures.rows chain stood kept)

@@ -1,6 +1,6 @@
 use Rattle.std.proofs.Common.{ap, refl, inl, ◌∙◌, [], Err}
 use Rattle.std.proofs.lemmas.Result.{err_from_is_err_and}
-use Rattle.el_outside.proofs.Devices.{rose_of, rose_still}
+use Rattle.el_side.proofs.Deeds.{rose_of, rose_still}
 use Rattle.el_chain.specs.Moves.{max_forward}
 use Rattle.el_chain.specs.Records.{IsNode}
 use Rattle.el_sync.proofs.Led.{memory_of, not_disk, starved_still}
@@ -37,7 +37,7 @@ returns-in-Ok-clause-keeps g c =
       tells = record {
         losses = [];
         says = of_ledger (rw c.passed.ensures (side_of.made c.in-Ok.moved.tip c.in-Ok.moved.height refl)) refl;
-        rose = λ of_link. rose_of of_link _ _ _ _ [] refl (rose_still _ _ e.reads.uncounted) (rose_still _ _ e.cause.uncounted);
+        rose = λ of_link of_relay. rose_of of_link of_relay _ _ _ _ [] refl refl (rose_still _ _ e.reads.uncounted) (rose_still _ _ e.cause.uncounted);
       };
     }
 

@@ -24,7 +24,7 @@ pub returns-in-Ok-Tip-clause-node : goal.returns-in-Ok-Tip-clause-node
 returns-in-Ok-Tip-clause-node g c = λ side start at from.
     IfOk-weaker c.order_tip.result _ _ (λ s leads.
     leads_in _ side start (Tips g.A.Archive side c.in-Ok-Tip.h) (OrdersLine g.A.Archive side (line c.args.text.now))
-    (left_by (beneath c.args.ledger.now c.args.archive.now) (beneath c.order_tip.new.ledger c.order_tip.new.archive) s side.found c.order_tip.new.holdings) _ (from.found ∙ sym c.order_tip.ensures.tree)
+    (left_by (beneath c.args.ledger.now c.args.archive.now) (beneath c.order_tip.new.ledger c.order_tip.new.archive) s side.found c.order_tip.new.holdings c.order_tip.new.caches) _ (from.found ∙ sym c.order_tip.ensures.tree)
     (λ losses next led. (Some (said.tip c.in-Ok-Tip.h.0), rw c.in-Ok-Tip.field-0-is at c.in-Ok-Tip.ensures.read, led)) leads)
     (c.order_tip.ensures.tip side start at from.found from.still)
 
@@ -50,7 +50,7 @@ returns-in_ok-told-in-Ok-Tx-clause-node g c = λ side start at from.
     let reads = rw c.in-Ok-Tx.field-0-is at c.in-Ok-Tx.ensures.read in
     by_sure side _
     (λ sure. kept_leads _ side start c.args.holdings.now _ _ _ _ sure at from.still
-    (said_after c.order_tx.new.pool side _ _ c.args.text.now (said.tx c.in-Ok-Tx.bytes) _ reads (rw c.as_slice.ensures at (e.adds side (at.stood sure) (stands_there c.args.holdings.now side start sure at.set from.still) at.set.limits)))
+    (said_after c.order_tx.new.pool side _ _ c.args.text.now (said.tx c.in-Ok-Tx.bytes) _ reads (rw c.as_slice.ensures at (e.adds side (at.stood sure) (stands_there c.args.holdings.now c.args.caches.now side start sure at.set from.still) at.set.limits)))
     c.pool_step.ensures.answer (sym from.found) c.pool_step.ensures.left c.pool_step.ensures.changed e.limits refl
     (asked_moved g.G.Ledger c.args.ledger.now c.order_tx.new.ledger side.chain (λ a d f h i j k. g.met.G.Ledger.leaves_own a d f h i j k) c.requires.live e.asked (at.stood sure)) e.disk_rose.uncounted)
     (λ un. unsure_leads _ side start c.args.holdings.now (OrdersLine g.A.Archive side (line c.args.text.now)) _ un at from.still
@@ -63,7 +63,7 @@ returns-in_ok-told-in-Ok-Drop-clause-node g c = λ side start at from.
     let reads = rw c.in-Ok-Drop.field-0-is at c.in-Ok-Drop.ensures.read in
     by_sure side _
     (λ sure. kept_leads _ side start c.args.holdings.now _ _ _ _ sure at from.still
-    (said_after c.order_drop.new.pool side _ _ c.args.text.now (said.dropped c.in-Ok-Drop.id.0) _ reads (e.drops side (stands_there c.args.holdings.now side start sure at.set from.still)))
+    (said_after c.order_drop.new.pool side _ _ c.args.text.now (said.dropped c.in-Ok-Drop.id.0) _ reads (e.drops side (stands_there c.args.holdings.now c.args.caches.now side start sure at.set from.still)))
     c.pool_step-in-Ok-Drop.ensures.answer (sym from.found) c.pool_step-in-Ok-Drop.ensures.left c.pool_step-in-Ok-Drop.ensures.changed e.limits refl
     (asked_moved g.G.Ledger c.args.ledger.now c.args.ledger.now side.chain (λ a d f h i j k. g.met.G.Ledger.leaves_own a d f h i j k) c.requires.live (asked_none g.G.Ledger c.args.ledger.now) (at.stood sure)) refl)
     (λ un. unsure_leads _ side start c.args.holdings.now (OrdersLine g.A.Archive side (line c.args.text.now)) _ un at from.still

@@ -42,8 +42,9 @@ returns-in-Ok-None-clause-step g c = λ world left stood told.
     let p = rw unchanged at c.turn_peers.ensures.peers in
     let q = rw unchanged at c.turn_peers.ensures.quiet in
     let s = rw unchanged at c.turn_peers.ensures.same in
+    let k = rw unchanged at c.turn_peers.ensures.caches in
     peers_turned (ghosts g.G.Ledger g.A.Archive) c.args.self.now c.turn_peers.new.self c.args.archive.now c.turn_peers.new.archive world left c.turn_peers.result (λ m n d t h i j. g.met.G.Ledger.leaves_own m n d t h i j) c.requires.live
-    stood told c.turn_peers.ensures.keeps (nil_if c.args.self.now.ahead c.is_empty.result c.if-not-is_empty.false (c.is_empty.ensures ∙ ap (λ (s : State g.row.G.Denot). length s.ahead == 0) c.self.view_is)) (ap (λ (s : State g.row.G.Denot). waiting s.clients) (sym c.self.view_is) ∙ c.in_default.ensures.place) all s q p
+    stood told c.turn_peers.ensures.keeps (nil_if c.args.self.now.ahead c.is_empty.result c.if-not-is_empty.false (c.is_empty.ensures ∙ ap (λ (s : State g.row.G.Denot). length s.ahead == 0) c.self.view_is)) (ap (λ (s : State g.row.G.Denot). waiting s.clients) (sym c.self.view_is) ∙ c.in_default.ensures.place) all s q k p
 
 pub returns-in-Ok-None-clause-done : goal.returns-in-Ok-None-clause-done
 returns-in-Ok-None-clause-done g c = λ world left stood.
@@ -52,8 +53,9 @@ returns-in-Ok-None-clause-done g c = λ world left stood.
     let p = rw unchanged at c.turn_peers.ensures.peers in
     let q = rw unchanged at c.turn_peers.ensures.quiet in
     let s = rw unchanged at c.turn_peers.ensures.same in
+    let k = rw unchanged at c.turn_peers.ensures.caches in
     peers_ended (ghosts g.G.Ledger g.A.Archive) c.args.self.now c.turn_peers.new.self c.args.archive.now c.turn_peers.new.archive world left c.turn_peers.result (λ m n d t h i j. g.met.G.Ledger.leaves_own m n d t h i j) c.requires.live
-    stood (nil_if c.args.self.now.ahead c.is_empty.result c.if-not-is_empty.false (c.is_empty.ensures ∙ ap (λ (s : State g.row.G.Denot). length s.ahead == 0) c.self.view_is)) (ap (λ (s : State g.row.G.Denot). waiting s.clients) (sym c.self.view_is) ∙ c.in_default.ensures.place) all s q p
+    stood (nil_if c.args.self.now.ahead c.is_empty.result c.if-not-is_empty.false (c.is_empty.ensures ∙ ap (λ (s : State g.row.G.Denot). length s.ahead == 0) c.self.view_is)) (ap (λ (s : State g.row.G.Denot). waiting s.clients) (sym c.self.view_is) ∙ c.in_default.ensures.place) all s q k p
 
 pub returns-in-Ok-None-clause-idle : goal.returns-in-Ok-None-clause-idle
 returns-in-Ok-None-clause-idle g c =

@@ -15,7 +15,7 @@ returns-in-Ok-touch-clause-moving g c = rw (← c.self.view_is) (λ side start h
   changed = c.in-Ok-move_next.step.changed;
   sends = c.sending_in.ensures ∙ ap (reply_to 0) c.answer_text.ensures;
   led = leads_in _ side start (Moving g.A.Archive side 0 c.self.inside.ahead) _ (left_by (beneath c.self.inside.ledger c.args.archive.now) (beneath c.move_next.new.ledger c.move_next.new.archive)
-      c.in-Ok-move_next.step side.found c.move_next.new.holdings) c.move_next.new.holdings.tree (found ∙ sym c.in-Ok-move_next.ensures.tree) (λ losses next led. led)
+      c.in-Ok-move_next.step side.found c.move_next.new.holdings c.move_next.new.caches) c.move_next.new.holdings.tree (found ∙ sym c.in-Ok-move_next.ensures.tree) (λ losses next led. led)
       (rw c.replace-rest.ensures.value at (c.in-Ok-move_next.ensures.moving side start here));
   covers = c.in-Ok-touch.ensures.covers;
 })
@@ -29,12 +29,12 @@ returns-in-Ok-touch-clause-step g c = rw (← c.self.view_is) (keeps_ok (ghosts 
 -- no memory for what the step touched
 pub returns-in_default-touch-clause-stopped : goal.returns-in_default-touch-clause-stopped
 returns-in_default-touch-clause-stopped g c = rw (← c.self.view_is) (λ side start sure here.
-    move_starves _ side start c.self.inside.ahead (left_by (beneath c.self.inside.ledger c.args.archive.now) (beneath c.move_next.new.ledger c.move_next.new.archive) c.in-Ok-move_next.step side.found c.move_next.new.holdings)
+    move_starves _ side start c.self.inside.ahead (left_by (beneath c.self.inside.ledger c.args.archive.now) (beneath c.move_next.new.ledger c.move_next.new.archive) c.in-Ok-move_next.step side.found c.move_next.new.holdings c.move_next.new.caches)
     sure (rw c.replace-rest.ensures.value at (c.in-Ok-move_next.ensures.moving side start here)))
 
 pub returns-in_default-touch-clause-lost : goal.returns-in_default-touch-clause-lost
 returns-in_default-touch-clause-lost g c = rw (← c.self.view_is) (λ side start un here.
-    move_fails _ side start c.self.inside.ahead (left_by (beneath c.self.inside.ledger c.args.archive.now) (beneath c.move_next.new.ledger c.move_next.new.archive) c.in-Ok-move_next.step side.found c.move_next.new.holdings)
+    move_fails _ side start c.self.inside.ahead (left_by (beneath c.self.inside.ledger c.args.archive.now) (beneath c.move_next.new.ledger c.move_next.new.archive) c.in-Ok-move_next.step side.found c.move_next.new.holdings c.move_next.new.caches)
     (rw c.replace-rest.ensures.value at (c.in-Ok-move_next.ensures.moving side start here)))
 
 pub returns-in_default-touch-clause-step : goal.returns-in_default-touch-clause-step

@@ -9,6 +9,7 @@ returns-clause-memory c failed = record {
   same = refl;
   count = (c.commit.ensures.memory failed).count
       ∙ ap {B = Table → ℕ} (λ (s : FailingRows) t. length (tables_of s.rows.rows t)) c.call.ensures.same;
+  as_many = refl;
   live = tt;
   below = record { crash = λ no. absurd no; files = λ no. absurd no };
 }

@@ -9,6 +9,7 @@ returns-clause-reads c = record {
   same = refl;
   count = c.row.ensures.reads.count
       ∙ ap {B = Table → ℕ} (λ (s : FailingRows) t. length (tables_of s.rows.rows t)) c.call.ensures.same;
+  as_many = refl;
   live = tt;
   below = record { crash = λ no. absurd no; files = λ no. absurd no };
 }
