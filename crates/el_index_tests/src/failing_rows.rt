@@ -54,7 +54,7 @@ fn fill_row(t: Table, byte: u8, buf: &mut [u8]) {
 pub struct FailingRows {
     /// How many rows each table has.
     pub counts: [u64; TABLES],
-    /// Of which byte each table's rows are, but for those of blocks, and for the upper halves of numbers of rows.
+    /// Of which byte each table's rows are, but for those of blocks, and the upper halves of numbers of rows.
     pub bytes: [u8; TABLES],
     /// What all coins hold after each block. Each other field of a block is 0.
     pub sum: u64,
