@@ -1,5 +1,5 @@
 -- An entry that joined a table: what the set then stands for, and which script hashes changed.
-use Rattle.std.proofs.Common.{◌≡◌, ℕ, List, [], ◌∷◌, ◌++◌, Option, None, Some, refl, ap, sym, subst, ◌∙◌}
+use Rattle.std.proofs.Common.{◌≡◌, ℕ, true, List, [], ◌∷◌, ◌++◌, Option, None, Some, refl, ap, sym, subst, ◌∙◌}
 use Rattle.std.specs.List.{AllByRecursion, list_any}
 use Rattle.std.specs.Prelude.{map, option_map, option_to_list}
 use Rattle.std.specs.Option.{option_or}
@@ -22,6 +22,8 @@ use Rattle.el_mempool.specs.Sift.{named, any_takes}
 use Rattle.el_mempool.specs.Refusals.{where_so, missing, spender_of, conflict, known_refusal, coin_refusal, room_refusal, tx_refusal}
 use Rattle.el_mempool.specs.Standing.{source_at, sources, kept_tx, StandsFor, is_at_script}
 use Rattle.el_mempool.specs.Adding.{Joined}
+use Rattle.el_mempool.specs.declared.fees.FeeChange.{FeeChange}
+use Rattle.el_mempool.specs.Fees.{fee_change, AreFeeChanges}
 use Rattle.el_kept.specs.Tables.{standing, by_txid, IsTable}
 use Rattle.el_kept.proofs.Lookups.{is_over, none_of, takers_are}
 use Rattle.el_join.specs.within.Tables.{Joins}
@@ -29,6 +31,7 @@ use Rattle.el_kept.proofs.Entries.{entry_found}
 use Rattle.el_kept.specs.Named.{IsOver}
 use Rattle.el_mempool.proofs.Joining.{both_none, is_free, stands_more}
 use Rattle.el_mempool.proofs.Arrivals.{arrival_changes}
+use Rattle.el_mempool.proofs.FeeChanges.{changes_are, one_more}
 
 no_spender : (f : Tx → PoolFault) (x : Option Tx) → option_map f x ≡ None → option_map txid x ≡ None
 no_spender f None h = refl
@@ -60,10 +63,11 @@ abbrev pub PutsIn : Table → KeptTx → List KeptTx → Type 0
 PutsIn table k new =
     by_txid k.txid (standing table.kept.entries) ≡ None → AllByRecursion (λ (s : Source). get same_outpoint table.spenders s.from ≡ None) k.inputs → new ≡ standing table.kept.entries ++ k ∷ []
 
-pub joined_is : (limits : PoolLimits) (table : Table) (chain : Chain) (kept : List Tx) (bytes : List ℕ) (k : KeptTx) (new : List KeptTx) (id : Hash32) (scripts : List Hash32)
-    → IsTable table (standing table.kept.entries) → StandsFor (standing table.kept.entries) chain kept → Joins limits chain kept bytes k → PutsIn table k new → id ≡ k.txid
-    → ((s : Hash32) → list_any (same_hash s) scripts ≡ is_at_script s.0 k) → AllDiffer scripts → Joined limits chain kept bytes new id scripts
-joined_is limits table chain kept bytes k new id scripts t h j puts same each once =
+-- the entry stands after the others
+pub stands_last : (limits : PoolLimits) (table : Table) (chain : Chain) (kept : List Tx) (bytes : List ℕ) (k : KeptTx) (new : List KeptTx)
+    → IsTable table (standing table.kept.entries) → StandsFor (standing table.kept.entries) chain kept → Joins limits chain kept bytes k → PutsIn table k new
+    → new ≡ standing table.kept.entries ++ k ∷ []
+stands_last limits table chain kept bytes k new t h j puts =
     let free = is_free limits chain kept j.tx j.free in
     let over = is_over table chain kept t h in
     let id_is : k.txid ≡ txid j.tx = ap (λ (x : KeptTx). x.txid) j.is in
@@ -72,7 +76,26 @@ joined_is limits table chain kept bytes k new id scripts t h j puts same each on
     ∙ none_of (by_txid (txid j.tx) (map (kept_tx chain kept) kept)) (entry_found (txid j.tx) chain kept kept ∙ free.new) in
     let untaken : AllByRecursion (λ (s : Source). get same_outpoint table.spenders s.from ≡ None) k.inputs =
     taken_by (sym (ap (λ (x : KeptTx). x.inputs) j.is)) (free_inputs table chain kept (txid j.tx) j.tx.inputs over (no_conflict limits chain kept j.tx j.free)) in
-    let is_new : new ≡ standing table.kept.entries ++ kept_tx chain kept j.tx ∷ [] = puts unknown untaken ∙ ap (λ x. standing table.kept.entries ++ x ∷ []) j.is in
+    puts unknown untaken
+  where
+    taken_by : {xs ys : List Source} → xs ≡ ys → AllByRecursion (λ (s : Source). get same_outpoint table.spenders s.from ≡ None) xs → AllByRecursion (λ (s : Source). get same_outpoint table.spenders s.from ≡ None) ys
+    taken_by {xs} {ys} e all = subst (λ (l : List Source). AllByRecursion (λ (s : Source). get same_outpoint table.spenders s.from ≡ None) l) e all
+
+-- what comes of it for the fees
+pub fees_joined : (limits : PoolLimits) (table : Table) (chain : Chain) (kept : List Tx) (bytes : List ℕ) (k : KeptTx) (new : List KeptTx) (changes : List FeeChange)
+    → IsTable table (standing table.kept.entries) → StandsFor (standing table.kept.entries) chain kept → Joins limits chain kept bytes k → PutsIn table k new
+    → changes ≡ fee_change true k ∷ [] → AreFeeChanges (standing table.kept.entries) new changes
+fees_joined limits table chain kept bytes k new changes t h j puts are =
+    subst (λ (l : List KeptTx). AreFeeChanges (standing table.kept.entries) l changes) (sym (stands_last limits table chain kept bytes k new t h j puts))
+    (changes_are (standing table.kept.entries) (standing table.kept.entries ++ k ∷ []) changes (are ∙ sym (one_more (standing table.kept.entries) k)))
+
+pub joined_is : (limits : PoolLimits) (table : Table) (chain : Chain) (kept : List Tx) (bytes : List ℕ) (k : KeptTx) (new : List KeptTx) (id : Hash32) (scripts : List Hash32)
+    → IsTable table (standing table.kept.entries) → StandsFor (standing table.kept.entries) chain kept → Joins limits chain kept bytes k → PutsIn table k new → id ≡ k.txid
+    → ((s : Hash32) → list_any (same_hash s) scripts ≡ is_at_script s.0 k) → AllDiffer scripts → Joined limits chain kept bytes new id scripts
+joined_is limits table chain kept bytes k new id scripts t h j puts same each once =
+    let id_is : k.txid ≡ txid j.tx = ap (λ (x : KeptTx). x.txid) j.is in
+    let is_new : new ≡ standing table.kept.entries ++ kept_tx chain kept j.tx ∷ [] =
+    stands_last limits table chain kept bytes k new t h j puts ∙ ap (λ x. standing table.kept.entries ++ x ∷ []) j.is in
     record {
       tx = j.tx;
       encoded = j.encoded;
@@ -81,6 +104,3 @@ joined_is limits table chain kept bytes k new id scripts t h j puts same each on
       stands = rw is_new (stands_more limits (standing table.kept.entries) chain kept j.tx h j.free);
       changed = arrival_changes limits (standing table.kept.entries) chain kept j.tx scripts h j.free once (λ s. each s ∙ ap (is_at_script s.0) j.is);
     }
-  where
-    taken_by : {xs ys : List Source} → xs ≡ ys → AllByRecursion (λ (s : Source). get same_outpoint table.spenders s.from ≡ None) xs → AllByRecursion (λ (s : Source). get same_outpoint table.spenders s.from ≡ None) ys
-    taken_by {xs} {ys} e all = subst (λ (l : List Source). AllByRecursion (λ (s : Source). get same_outpoint table.spenders s.from ≡ None) l) e all

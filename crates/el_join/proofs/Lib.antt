@@ -4,3 +4,4 @@ pub mod Added
 pub mod Gathered
 pub mod Dropped
 pub mod Backward
+pub mod FeesGone

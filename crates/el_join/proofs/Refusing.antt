@@ -11,7 +11,7 @@ use Rattle.el_tx.specs.declared.types.TxIn.{TxIn}
 use Rattle.el_tx.specs.declared.types.TxOut.{TxOut}
 use Rattle.el_tx.specs.declared.types.Tx.{Tx}
 use Rattle.el_tx.specs.Encoding.{Encodes, stripped, with_witness, total_value, max_money}
-use Rattle.el_tx.specs.Hashing.{txid, same_outpoint, full_encoding}
+use Rattle.el_tx.specs.Hashing.{txid, vsize, same_outpoint, full_encoding}
 use Rattle.el_chain.specs.Chains.{Chain}
 use Rattle.el_chain.specs.Headers.{same_hash}
 use Rattle.el_chain.specs.declared.node.Spot.{Spot}
@@ -158,7 +158,7 @@ names_of chain kept t none = names_all chain kept t.inputs (both_none (missing c
 
 pub kept_is : (table : Table) (chain : Chain) (kept : List Tx) (t : Tx) (bytes : List ℕ) (id : Hash32) (ss : List Source) (outs : List TxOut) (k : KeptTx) → IsOver table chain kept → coin_refusal chain kept t ≡ None
     → Encodes bytes t → id ≡ txid t → ss ≡ sources chain kept t.inputs → outs ≡ t.outputs
-    → k ≡ record { txid = id; flag = flag_by table ss; fee = total_sources ss - total_held (map output_held outs); bytes = bytes; inputs = ss; outputs = map output_held outs }
+    → k ≡ record { txid = id; flag = flag_by table ss; fee = total_sources ss - total_held (map output_held outs); vsize = vsize t; bytes = bytes; inputs = ss; outputs = map output_held outs }
     → k ≡ kept_tx chain kept t
 kept_is table chain kept t bytes id ss outs k h none enc same are whole is =
     let full = sym (encoded_full bytes t enc) in
@@ -167,6 +167,6 @@ kept_is table chain kept t bytes id ss outs k h none enc same are whole is =
     is ∙ by flags fees (rw (same, are, whole, full) refl)
   where
     by : {f g : ℤ} {m n : ℕ} → f ≡ g → m ≡ n
-        → ◌≡◌ {A = KeptTx} (record { txid = id; flag = g; fee = n; bytes = bytes; inputs = ss; outputs = map output_held outs }) (record { txid = txid t; flag = g; fee = n; bytes = full_encoding t; inputs = sources chain kept t.inputs; outputs = map output_held t.outputs })
-        → ◌≡◌ {A = KeptTx} (record { txid = id; flag = f; fee = m; bytes = bytes; inputs = ss; outputs = map output_held outs }) (record { txid = txid t; flag = g; fee = n; bytes = full_encoding t; inputs = sources chain kept t.inputs; outputs = map output_held t.outputs })
+        → ◌≡◌ {A = KeptTx} (record { txid = id; flag = g; fee = n; vsize = vsize t; bytes = bytes; inputs = ss; outputs = map output_held outs }) (record { txid = txid t; flag = g; fee = n; vsize = vsize t; bytes = full_encoding t; inputs = sources chain kept t.inputs; outputs = map output_held t.outputs })
+        → ◌≡◌ {A = KeptTx} (record { txid = id; flag = f; fee = m; vsize = vsize t; bytes = bytes; inputs = ss; outputs = map output_held outs }) (record { txid = txid t; flag = g; fee = n; vsize = vsize t; bytes = full_encoding t; inputs = sources chain kept t.inputs; outputs = map output_held t.outputs })
     by e d same = rw (e, d) same

@@ -5,6 +5,7 @@ ghost use Rattle.el_outside.specs.Counts.{HasCause, CountsOnly};
 ghost use Rattle.el_chain.specs.Chains.{Chain};
 ghost use Rattle.el_model.specs.LedgerCalls.{Asked};
 ghost use Rattle.el_tx.specs.declared.types.Tx as shape;
+ghost use Rattle.el_tx.specs.Encoding.{Encodes};
 ghost use Rattle.el_tx.specs.Hashing as hashing;
 ghost use Rattle.el_mempool.specs.Sift.{output_held, total_held};
 ghost use Rattle.el_mempool.specs.Refusals.{known_refusal, coin_refusal, IsRefused};
@@ -20,7 +21,7 @@ use el_kept::{Table, Taken, fee_of, kept_under};
 use el_mempool::{Held, KeptTx, PoolFault, PoolLimits, is_coinbase_form, whole_tx};
 use el_model::Ledger;
 use el_outside::DiskFailed;
-use el_tx::{Tx, TxOut, txid};
+use el_tx::{Tx, TxOut, txid, vsize};
 use std::alloc::Global;
 
 // The refusal of the transaction with that txid for what it is: a coinbase's form, one of the chain, one that
@@ -95,30 +96,46 @@ fn held_by(alloc: Global, outputs: &[TxOut]) -> Result<Vec<Held>, OutOfMemory>
     Ok(held)
 }
 
-// What is kept of a transaction with that txid and encoding, whose inputs are these.
+// The size in virtual bytes of the transaction that the bytes encode. No memory holds an encoding of 2^61
+// bytes.
+fn vsize_of(tx: &Tx, bytes: &[u8]) -> Result<u64, OutOfMemory>
+    requires { Encodes bytes.now tx.now }
+    ensures { IfOk result (λ n. n ≡ hashing.vsize tx.now) }
+{
+    if bytes.len() >= 1 << 61 {
+        return Err(OutOfMemory);
+    }
+    Ok(vsize(tx))
+}
+
+// What is kept of a transaction with that txid and encoding, which takes this.
 fn kept_of(
     alloc: Global,
     id: Hash32,
+    tx: &Tx,
     bytes: &[u8],
     taken: Taken,
-    outputs: &[TxOut],
 ) -> Result<KeptTx, OutOfMemory>
+    requires { Encodes bytes.now tx.now }
     ensures { IfOk result (λ k. k ≡ record {
       txid = id;
       flag = taken.flag;
-      fee = total_sources taken.sources.items - total_held (map output_held outputs.now);
+      fee = total_sources taken.sources.items - total_held (map output_held tx.now.outputs);
+      vsize = hashing.vsize tx.now;
       bytes = bytes.now;
       inputs = taken.sources.items;
-      outputs = map output_held outputs.now;
+      outputs = map output_held tx.now.outputs;
     }) }
 {
-    let held = held_by(alloc, outputs)?;
+    let held = held_by(alloc, tx.outputs.as_slice())?;
     let fee = fee_of(taken.sources.as_slice(), held.as_slice())?;
+    let vsize = vsize_of(tx, bytes)?;
     let bytes = Bytes::from_slice(alloc, bytes)?;
     Ok(KeptTx {
         txid: id,
         flag: taken.flag,
         fee,
+        vsize,
         bytes,
         inputs: Listed::from_vec(taken.sources),
         outputs: Listed::from_vec(held),
@@ -157,6 +174,6 @@ pub fn examine<G: Ledger>(
     if let Some(refusal) = lack_of(table, limits, sources, outputs, bytes.len()) {
         return Err(refusal);
     }
-    let kept = kept_of(alloc, id, bytes, taken, outputs)?;
+    let kept = kept_of(alloc, id, &tx, bytes, taken)?;
     Ok(kept)
 }

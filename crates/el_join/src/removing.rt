@@ -1,5 +1,5 @@
 // A kept transaction is dropped, with all that spend it.
-ghost use Rattle.std.specs.Prelude.{◌≡◌, ◌||◌, List, [], None, Ok, IfOk, IfSome, OnOk, OnErr, slice_get};
+ghost use Rattle.std.specs.Prelude.{◌≡◌, ◌||◌, ◌++◌, flat_map, List, [], None, Ok, IfOk, IfSome, OnOk, OnErr, slice_get};
 ghost use Rattle.std.specs.List.{list_any};
 ghost use Rattle.std.specs.Option.{is_some};
 ghost use Rattle.indexmap.specs.IndexMap.{get};
@@ -13,13 +13,15 @@ ghost use Rattle.el_mempool.specs.Sift.{sift, other_than};
 ghost use Rattle.el_mempool.specs.Standing.{StandsFor, AreChanged, has_entry};
 ghost use Rattle.el_kept.specs.Tables.{standing, slot, slot_at_script, IsTable, HasFewSlots};
 ghost use Rattle.el_kept.specs.Listings.{AreListed};
-ghost use Rattle.el_join.specs.within.Going.{with_taker, size, Grown, Gathers};
+ghost use Rattle.el_mempool.specs.Fees.{AreFeeChanges};
+ghost use Rattle.el_join.specs.within.Going.{with_taker, size, gone_change, Grown, Gathers};
 
 use el_base::{Hash32, OutOfMemory};
 use el_chain::Touched;
 use el_kept::{
     Listing, Table, kept_under, take_out_all, taker_in, tidy, touch_inputs, touch_outputs,
 };
+use el_mempool::FeeChange;
 use el_tx::Outpoint;
 use std::alloc::Global;
 use std::collections::BTreeSet;
@@ -110,12 +112,39 @@ pub fn touched_by_all(alloc: Global, table: &Table, ids: &[Hash32]) -> Result<To
     Ok(touched)
 }
 
+// Adds that the kept transaction goes.
+fn add_gone(table: &Table, id: &Hash32, changes: &mut Vec<FeeChange>) -> Result<(), OutOfMemory>
+    ensures { OnOk result (changes.new.items ≡ changes.old.items ++ gone_change (slot table.now id.now)) }
+{
+    if let Some(entry) = kept_under(table, id) {
+        changes.push(FeeChange::of(entry, false))?;
+    }
+    Ok(())
+}
+
+// What changes of the fees where the kept transactions go.
+fn changes_of_all(
+    alloc: Global,
+    table: &Table,
+    ids: &[Hash32],
+) -> Result<Vec<FeeChange>, OutOfMemory>
+    ensures { IfOk result (λ changes. changes.items ≡ flat_map (λ id. gone_change (slot table.now id)) ids.now) }
+{
+    let mut changes = Vec::new(alloc);
+    for id in ids {
+        add_gone(table, id, &mut changes)?;
+    }
+    Ok(changes)
+}
+
 /// Takes the transaction with that txid out of the table, with all that spend it, directly or not, and
-/// gives the script hashes that changed; None exactly where it isn't kept.
+/// gives the script hashes that changed; None exactly where it isn't kept. `changes` then has what changed of
+/// the fees. After out of memory all is as it was.
 pub fn drop_from(
     alloc: Global,
     table: &mut Table,
     listings: &mut BTreeSet<Listing>,
+    changes: &mut Vec<FeeChange>,
     txid: &Hash32,
 ) -> Result<Option<Touched>, OutOfMemory>
     requires table { IsTable table.old (standing table.old.kept.entries) }
@@ -129,15 +158,24 @@ pub fn drop_from(
     ensures table { IsTable table.new (standing table.new.kept.entries) }
     ensures listed { AreListed listings.new (standing table.new.kept.entries) }
     ensures slots { HasFewSlots table.old → HasFewSlots table.new }
+    ensures fees { (chain : Chain) (kept : List tx_shape.Tx)
+        → StandsFor (standing table.old.kept.entries) chain kept
+        → OnOk result (AreFeeChanges (standing table.old.kept.entries) (standing table.new.kept.entries)
+        changes.new.items) }
     ensures absent { result ≡ Ok None → table.new.kept.entries ≡ table.old.kept.entries }
+    ensures no_changes { result ≡ Ok None → changes.new.items ≡ [] }
     ensures same { OnErr result (table.new.kept.entries ≡ table.old.kept.entries) }
+    ensures same_changes { OnErr result (changes.new.items ≡ changes.old.items) }
 {
     if kept_under(table, txid).is_none() {
+        changes.clear();
         return Ok(None);
     }
     let gone = gather(alloc, table, txid)?;
     let touched = touched_by_all(alloc, table, gone.list())?;
+    let told = changes_of_all(alloc, table, gone.list())?;
     take_out_all(table, listings, gone.list());
     tidy(table);
+    *changes = told;
     Ok(Some(touched))
 }

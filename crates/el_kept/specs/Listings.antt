@@ -50,7 +50,7 @@ AreListed ls ks = (l : Listing) → is_in ls l ≡ slot_at_script l.script.0 (by
 abbrev pub least : Hash32 → Listing
 least script = record { script = script; reversed = replicate 32 0 }
 
--- the greatest
+-- the greatest listing under the script hash
 abbrev pub greatest : Hash32 → Listing
 greatest script = record { script = script; reversed = replicate 32 255 }
 

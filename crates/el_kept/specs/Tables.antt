@@ -89,7 +89,15 @@ pub record HasRoom (t : Table) (inputs : ℕ) : Type 0 where
 -- the entry with that flag and fee and these inputs
 abbrev pub with_takes : KeptTx → ℤ → ℕ → List Source → KeptTx
 with_takes k flag fee inputs =
-    record { txid = k.txid; flag = flag; fee = fee; bytes = k.bytes; inputs = inputs; outputs = k.outputs }
+    record {
+      txid = k.txid;
+      flag = flag;
+      fee = fee;
+      vsize = k.vsize;
+      bytes = k.bytes;
+      inputs = inputs;
+      outputs = k.outputs;
+    }
 
 -- both take the same outpoints in the same order
 abbrev pub same_froms : List Source → List Source → Bool

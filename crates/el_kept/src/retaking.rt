@@ -32,6 +32,7 @@ fn taking(entry: KeptTx, takes: Takes) -> KeptTx
         txid: entry.txid,
         flag: takes.flag,
         fee: takes.fee,
+        vsize: entry.vsize,
         bytes: entry.bytes,
         inputs: takes.inputs,
         outputs: entry.outputs,

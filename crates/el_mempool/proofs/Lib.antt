@@ -16,3 +16,4 @@ pub mod Worth
 pub mod ShownOrder
 pub mod Walks
 pub mod Whole
+pub mod FeeChanges

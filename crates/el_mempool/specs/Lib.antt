@@ -4,3 +4,4 @@ pub mod Refusals
 pub mod Standing
 pub mod Adding
 pub mod Moving
+pub mod Fees

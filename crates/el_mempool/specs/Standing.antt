@@ -4,13 +4,14 @@ use Rattle.std.specs.List.{list_any}
 use Rattle.el_base.specs.declared.hash.Hash32.{Hash32}
 use Rattle.el_tx.specs.declared.types.TxIn.{TxIn}
 use Rattle.el_tx.specs.declared.types.Tx.{Tx}
-use Rattle.el_tx.specs.Hashing.{txid, full_encoding}
+use Rattle.el_tx.specs.Hashing.{txid, vsize, full_encoding}
 use Rattle.el_block.specs.Blocks.{AllDiffer}
 use Rattle.el_chain.specs.Chains.{Chain}
 use Rattle.el_chain.specs.Headers.{same_hash}
 use Rattle.el_mempool.specs.declared.held.Held.{Held}
 use Rattle.el_mempool.specs.declared.held.Source.{Source}
 use Rattle.el_mempool.specs.declared.held.KeptTx.{KeptTx}
+use Rattle.el_mempool.specs.declared.fees.FeeChange.{FeeChange}
 use Rattle.el_mempool.specs.declared.entry.PoolLimits.{PoolLimits}
 use Rattle.el_mempool.specs.Sift.{named, output_held, sift}
 use Rattle.el_mempool.specs.Unconfirmed.{flag, fee, has_script, pool_history, pool_unspent}
@@ -31,6 +32,7 @@ kept_tx chain kept t = record {
   txid = txid t;
   flag = flag kept t;
   fee = fee chain kept t;
+  vsize = vsize t;
   bytes = full_encoding t;
   inputs = sources chain kept t.inputs;
   outputs = map output_held t.outputs;
@@ -59,10 +61,12 @@ pub record AreChanged (before : Chain) (old : List Tx) (after : Chain) (new : Li
       × (pool_unspent old s.0 ≡ pool_unspent new s.0)
   pub once : AllDiffer scripts
 
--- what callers see of a set: its transactions in order of arrival, and its limits
+-- what callers see of a set: its transactions in order of arrival, its limits, and what its last change
+-- changed of the fees
 pub record PoolState : Type 0 where
   pub entries : List KeptTx
   pub limits : PoolLimits
+  pub changes : List FeeChange
 
 -- one of the entries has that txid
 abbrev pub has_entry : Hash32 → List KeptTx → Bool

@@ -29,6 +29,8 @@ pub struct KeptTx {
     pub flag: i8,
     /// What its inputs hold less what its outputs hold, in satoshi.
     pub fee: u64,
+    /// Its size in virtual bytes (BIP 141).
+    pub vsize: u64,
     /// Its whole encoding (BIP 144).
     pub bytes: Bytes,
     /// Its inputs, in order, each with what it takes.

@@ -1,5 +1,5 @@
 // The unconfirmed set.
-ghost use Rattle.std.specs.Prelude.{◌≡◌, ◌≤◌, ◌⊎◌, [], IfOk, IfErr, IfSome, OnErr, List, Ok, None, option_map, option_copied};
+ghost use Rattle.std.specs.Prelude.{◌≡◌, ◌≤◌, ◌⊎◌, [], IfOk, IfErr, IfSome, OnOk, OnErr, List, Ok, None, option_map, option_copied};
 ghost use Rattle.std.specs.Option.{is_some};
 ghost use Rattle.el_outside.specs.Counts.{CountsOnly};
 ghost use Rattle.el_chain.specs.Chains.{Chain};
@@ -10,13 +10,14 @@ ghost use Rattle.el_mempool.specs.Adding.{Joined};
 ghost use Rattle.el_mempool.specs.Refusals.{IsRefused, spender_of, kept_with};
 ghost use Rattle.el_mempool.specs.Sift.{sift, other_than};
 ghost use Rattle.el_mempool.specs.Unconfirmed.{pool_history, pool_unspent};
+ghost use Rattle.el_mempool.specs.Fees.{AreFeeChanges, FitTogether};
 ghost use Rattle.el_mempool.specs.Standing.{StandsFor, AreChanged, has_entry, kept_tx};
 
 use el_base::{Hash32, OutOfMemory};
 use el_chain::{Coin, Touched};
 use el_join::{add_to, drop_from};
 use el_kept::{Listing, Table, empty_table, entries_at, kept_under, outs_at, taker_in};
-use el_mempool::{KeptTx, PoolEntry, PoolFault, PoolLimits};
+use el_mempool::{FeeChange, KeptTx, PoolEntry, PoolFault, PoolLimits};
 use el_model::{Ledger, QueryFault};
 use el_sift::sift_table;
 use el_tx::Outpoint;
@@ -32,6 +33,7 @@ pub struct Pool {
     table: Table,
     listings: BTreeSet<Listing>,
     limits: PoolLimits,
+    changes: Vec<FeeChange>,
 }
 
 impl Model for Pool {
@@ -41,7 +43,11 @@ impl Model for Pool {
 
     ghost Value = { PoolState };
 
-    ghost view = { λ p. record { entries = standing p.table.kept.entries; limits = p.limits } };
+    ghost view = { λ p. record {
+      entries = standing p.table.kept.entries;
+      limits = p.limits;
+      changes = p.changes.items;
+    } };
 
     ghost invariant = { λ p. IsTable p.table (standing p.table.kept.entries)
         × AreListed p.listings (standing p.table.kept.entries) × HasFewSlots p.table };
@@ -52,12 +58,14 @@ impl Pool {
     pub fn new(alloc: Global, limits: PoolLimits) -> Pool
         ensures entries { result.entries ≡ [] }
         ensures limits { result.limits ≡ limits }
+        ensures changes { result.changes ≡ [] }
     {
         Pool {
             alloc,
             table: empty_table(alloc),
             listings: BTreeSet::new(alloc),
             limits,
+            changes: Vec::new(alloc),
         }
     }
 
@@ -73,21 +81,28 @@ impl Pool {
         bytes: &[u8],
     ) -> Result<(Hash32, Touched), PoolFault>
         requires live { G.is_live ledger.old }
+
         ensures joined { (chain : Chain) (kept : List shape.Tx) → StandsFor self.old.entries chain kept
             → G.stands ledger.old chain → IfOk result (λ r.
             Joined self.old.limits chain kept bytes.now self.new.entries r.0 r.1) }
-        ensures refused { (chain : Chain) (kept : List shape.Tx) → StandsFor self.old.entries chain kept
-            → G.stands ledger.old chain → IfErr result (λ e. (e ≡ PoolFault.Memory)
-            ⊎ ((e ≡ PoolFault.DiskFailed) ⊎ IsRefused self.old.limits chain kept bytes.now e)) }
+        ensures fees { (chain : Chain) (kept : List shape.Tx) → StandsFor self.old.entries chain kept
+            → G.stands ledger.old chain
+            → OnOk result (AreFeeChanges self.old.entries self.new.entries self.new.changes) }
+
         ensures same { OnErr result (self.new ≡ self.old) }
         ensures limits { self.new.limits ≡ self.old.limits }
         ensures quiet { Asked ⟦<G as Ledger>⟧ ledger.old ledger.new }
+
+        ensures refused { (chain : Chain) (kept : List shape.Tx) → StandsFor self.old.entries chain kept
+            → G.stands ledger.old chain → IfErr result (λ e. (e ≡ PoolFault.Memory)
+            ⊎ ((e ≡ PoolFault.DiskFailed) ⊎ IsRefused self.old.limits chain kept bytes.now e)) }
         ensures cause { CountsOnly (G.faults ledger.old) (G.faults ledger.new) PoolFault.DiskFailed result }
     {
         add_to(
             self.alloc,
             &mut self.table,
             &mut self.listings,
+            &mut self.changes,
             &self.limits,
             ledger,
             bytes,
@@ -104,11 +119,21 @@ impl Pool {
             → IfOk result (λ r. IfSome r (λ touched.
             StandsFor self.new.entries chain (sift chain (other_than txid.now kept))
             × AreChanged chain kept chain (sift chain (other_than txid.now kept)) touched)) }
-        ensures absent { result ≡ Ok None → self.new ≡ self.old }
+        ensures fees { (chain : Chain) (kept : List shape.Tx) → StandsFor self.old.entries chain kept
+            → OnOk result (AreFeeChanges self.old.entries self.new.entries self.new.changes) }
+        ensures absent { result ≡ Ok None
+            → self.new ≡ record { entries = self.old.entries; limits = self.old.limits; changes = [] } }
+
         ensures same { OnErr result (self.new ≡ self.old) }
         ensures limits { self.new.limits ≡ self.old.limits }
     {
-        drop_from(self.alloc, &mut self.table, &mut self.listings, txid)
+        drop_from(
+            self.alloc,
+            &mut self.table,
+            &mut self.listings,
+            &mut self.changes,
+            txid,
+        )
     }
 
     /// Keeps what the sift keeps over the ledger's chain, whichever that now is, and gives the script
@@ -119,15 +144,40 @@ impl Pool {
     /// `DiskFailed`, `Memory`; then the set is not used again.
     pub fn after_move<G: Ledger>(&mut self, ledger: &mut G) -> Result<Touched, QueryFault>
         requires live { G.is_live ledger.old }
+
         ensures sifted { (before chain : Chain) (kept : List shape.Tx)
             → StandsFor self.old.entries before kept → G.stands ledger.old chain
             → IfOk result (λ touched. StandsFor self.new.entries chain (sift chain kept)
             × AreChanged before kept chain (sift chain kept) touched) }
+        ensures fees { (before chain : Chain) (kept : List shape.Tx)
+            → StandsFor self.old.entries before kept → G.stands ledger.old chain
+            → OnOk result (AreFeeChanges self.old.entries self.new.entries self.new.changes) }
+
         ensures limits { self.new.limits ≡ self.old.limits }
         ensures quiet { Asked ⟦<G as Ledger>⟧ ledger.old ledger.new }
+
         ensures cause { CountsOnly (G.faults ledger.old) (G.faults ledger.new) QueryFault.DiskFailed result }
     {
-        sift_table(self.alloc, &mut self.table, &mut self.listings, ledger)
+        sift_table(
+            self.alloc,
+            &mut self.table,
+            &mut self.listings,
+            &mut self.changes,
+            ledger,
+        )
+    }
+
+    /// What the last Ok of `add`, `drop_tx` or `after_move` changed of the fees, in no order: each
+    /// transaction that came or left, and one that stays with another fee as one that left and came. Takes no
+    /// memory.
+    pub fn last_changes(&self) -> &[FeeChange]
+        ensures changes { result.now ≡ self.now.changes }
+        ensures fit { (chain : Chain) (kept : List shape.Tx) → StandsFor self.now.entries chain kept
+            → FitTogether self.now.entries }
+    {
+        // 64 bits count the bytes of the kept transactions together.
+        let _bytes = self.table.bytes;
+        self.changes.as_slice()
     }
 
     /// What is kept of the transaction with that txid; None exactly where it isn't kept. Takes no memory.

@@ -1,5 +1,5 @@
 -- The kept transactions are sifted over another chain one after the other: which go, and what the others then take.
-use Rattle.std.proofs.Common.{◌≡◌, ◌⊎◌, inl, inr, ℕ, ℤ, ◌-◌, true, false, Bool, cond, not, ◌&&◌, ◌||◌, List, [], ◌∷◌, ◌++◌, append_assoc, append-nil, Option, None, Some, Result, Err, refl, ap, sym, subst, ◌∙◌}
+use Rattle.std.proofs.Common.{◌≡◌, ◌⊎◌, inl, inr, ℕ, ℤ, ◌-◌, true, false, Bool, cond, not, ◌&&◌, ◌||◌, List, [], ◌∷◌, ◌++◌, append_assoc, append-nil, Option, None, Some, Result, Err, refl, ap, ap₂, sym, subst, ◌∙◌}
 use Rattle.std.proofs.lemmas.Bool.{and_parts, and_from, or_parts, or_cases, or_left, or_right, not-true, not_from_false, true≢false, false_from_ne_true}
 use Rattle.std.proofs.lemmas.List.{map-append}
 use Rattle.std.proofs.lemmas.List.Elements.{filter-append}
@@ -28,6 +28,9 @@ use Rattle.el_mempool.specs.Refusals.{is_kept}
 use Rattle.el_mempool.specs.Standing.{source_at, sources, kept_tx, is_at_script, StandsFor, AreChanged}
 use Rattle.el_mempool.specs.Unconfirmed.{flag}
 use Rattle.el_mempool.specs.Moving.{differs_at, step_differs, any_differs}
+use Rattle.el_mempool.specs.declared.fees.FeeChange.{FeeChange}
+use Rattle.el_mempool.specs.Fees.{fee_change, stay_changes, fee_changes}
+use Rattle.el_mempool.proofs.FeeChanges.{Matched, matched_went, matched_stays}
 use Rattle.el_mempool.proofs.Sifting.{AllJoin, joins_of}
 use Rattle.el_mempool.proofs.Confirmed.{hash_self, hash_same, hash_turned}
 use Rattle.el_mempool.proofs.Named.{AreNamed, among_append, are_named_more}
@@ -47,16 +50,17 @@ use Rattle.el_kept.proofs.Lookups.{kept_unspent, unspent_of, fee_is}
 
 -- ---- one of them
 
-same_kept : {a b : Hash32} {f g : ℤ} {m n : ℕ} {x y : List ℕ} {i j : List Source} {o p : List Held} → a ≡ b → f ≡ g → m ≡ n → x ≡ y → i ≡ j → o ≡ p
-    → ◌≡◌ {A = KeptTx} (record { txid = a; flag = f; fee = m; bytes = x; inputs = i; outputs = o }) (record { txid = b; flag = g; fee = n; bytes = y; inputs = j; outputs = p })
-same_kept e1 e2 e3 e4 e5 e6 = rw (e1, e2, e3, e4, e5, e6) refl
+same_kept : {a b : Hash32} {f g : ℤ} {m n v w : ℕ} {x y : List ℕ} {i j : List Source} {o p : List Held} → a ≡ b → f ≡ g → m ≡ n → v ≡ w → x ≡ y → i ≡ j → o ≡ p
+    → ◌≡◌ {A = KeptTx} (record { txid = a; flag = f; fee = m; vsize = v; bytes = x; inputs = i; outputs = o }) (record { txid = b; flag = g; fee = n; vsize = w; bytes = y; inputs = j; outputs = p })
+same_kept e1 e2 e3 e4 e5 e6 e7 = rw (e1, e2, e3, e4, e5, e6, e7) refl
 
 -- the entry with what it takes now
 next_is : (before chain : Chain) (all kept : List Tx) (t : Tx) (k : KeptTx) (f : ℤ) (found : List Source) → k ≡ kept_tx before all t
     → f ≡ flag kept t → found ≡ sources chain kept t.inputs → with_takes k f (total_sources found - total_held k.outputs) found ≡ kept_tx chain kept t
 next_is before chain all kept t k f found is flags are =
     let outs : k.outputs ≡ map output_held t.outputs = ap (λ (x : KeptTx). x.outputs) is in
-    same_kept (ap (λ (x : KeptTx). x.txid) is) flags (fee_is chain kept t found k.outputs are outs) (ap (λ (x : KeptTx). x.bytes) is) are outs
+    same_kept (ap (λ (x : KeptTx). x.txid) is) flags (fee_is chain kept t found k.outputs are outs) (ap (λ (x : KeptTx). x.vsize) is)
+    (ap (λ (x : KeptTx). x.bytes) is) are outs
 
 -- both take by the transaction's own outpoints
 froms_same : (before chain : Chain) (all kept : List Tx) (is : List TxIn) → AreNamed before all is → AreNamed chain kept is
@@ -72,12 +76,13 @@ froms_same before chain all kept (i ∷ is) h g =
     by (Some v) (Some w) one two own more = rw (own, more) refl
 
 -- it stays
-pub stays : (before chain : Chain) (all kept : List Tx) (t : Tx) (k : KeptTx) (gone : List Hash32) (changed now : List Takes) (old new : List Hash32) (f : ℤ) (found : List Source)
+pub stays : (before chain : Chain) (all kept : List Tx) (t : Tx) (k : KeptTx) (gone : List Hash32) (changed now : List Takes) (fees fees_now : List FeeChange) (old new : List Hash32) (f : ℤ) (found : List Source)
     → IsNext before all kept gone t k → (may_join chain kept t ≡ true) × (found ≡ sources chain kept t.inputs) × (f ≡ flag kept t)
     → IsKeptOn k (with_takes k f (total_sources found - total_held k.outputs) found) changed now
+    → fees_now ≡ fees ++ stay_changes k (with_takes k f (total_sources found - total_held k.outputs) found)
     → ((s : Hash32) → list_any (same_hash s) new ≡ (list_any (same_hash s) old || differs_at s.0 k (with_takes k f (total_sources found - total_held k.outputs) found)))
-    → IsSifted before chain all kept t gone gone changed now old new
-stays before chain all kept t k gone changed now old new f found e may keeps told =
+    → IsSifted before chain all kept t gone gone changed now fees fees_now old new
+stays before chain all kept t k gone changed now fees fees_now old new f found e may keeps fee told =
     let next = next_is before chain all kept t k f found e.is may.2 may.1 in
     let on : IsKeptOn (kept_tx before all t) (with_takes k f (total_sources found - total_held k.outputs) found) changed now =
     subst (λ (x : KeptTx). IsKeptOn x (with_takes k f (total_sources found - total_held k.outputs) found) changed now) e.is keeps in
@@ -87,6 +92,7 @@ stays before chain all kept t k gone changed now old new f found e may keeps tol
         refl,
         subst (λ (x : KeptTx). IsKeptOn (kept_tx before all t) x changed now) next on,
         froms_same before chain all kept t.inputs e.named (joins_named chain kept t may.0),
+        fee ∙ ap₂ (λ (x y : KeptTx). fees ++ stay_changes x y) e.is next,
       );
       touched = λ s. told s ∙ ap (λ (x : KeptTx). list_any (same_hash s) old || differs_at s.0 k x) next
           ∙ ap (λ (x : KeptTx). list_any (same_hash s) old || differs_at s.0 x (kept_tx chain kept t)) e.is
@@ -94,11 +100,16 @@ stays before chain all kept t k gone changed now old new f found e may keeps tol
     }
 
 -- it goes
-pub goes : (before chain : Chain) (all kept : List Tx) (t : Tx) (k : KeptTx) (gone gone_now : List Hash32) (changed : List Takes) (old new : List Hash32) → IsNext before all kept gone t k
+pub goes : (before chain : Chain) (all kept : List Tx) (t : Tx) (k : KeptTx) (gone gone_now : List Hash32) (changed : List Takes) (fees fees_now : List FeeChange) (old new : List Hash32) → IsNext before all kept gone t k
     → may_join chain kept t ≡ false → ((id : Hash32) → has gone_now id ≡ (has gone id || same_hash id k.txid))
-    → ((s : Hash32) → list_any (same_hash s) new ≡ (list_any (same_hash s) old || is_at_script s.0 k)) → IsSifted before chain all kept t gone gone_now changed changed old new
-goes before chain all kept t k gone gone_now changed old new e off more told = record {
-  went = λ _. ((λ id. more id ∙ ap (λ (x : KeptTx). has gone id || same_hash id x.txid) e.is), refl);
+    → fees_now ≡ fees ++ fee_change false k ∷ []
+    → ((s : Hash32) → list_any (same_hash s) new ≡ (list_any (same_hash s) old || is_at_script s.0 k)) → IsSifted before chain all kept t gone gone_now changed changed fees fees_now old new
+goes before chain all kept t k gone gone_now changed fees fees_now old new e off more fee told = record {
+  went = λ _. (
+    (λ id. more id ∙ ap (λ (x : KeptTx). has gone id || same_hash id x.txid) e.is),
+    refl,
+    fee ∙ ap (λ (x : KeptTx). fees ++ fee_change false x ∷ []) e.is,
+  );
   stayed = λ may. absurd (true≢false (sym may ∙ off));
   touched = λ s. told s ∙ ap (λ (x : KeptTx). list_any (same_hash s) old || is_at_script s.0 x) e.is
       ∙ ap (λ b. list_any (same_hash s) old || b) (sym (ap (λ b. cond b (differs_at s.0 (kept_tx before all t) (kept_tx chain kept t)) (is_at_script s.0 (kept_tx before all t))) off));
@@ -214,7 +225,7 @@ kept_on before chain all kept t changed now off new froms (inr more) =
 
 -- Of all transactions some are done and some are left, to which the sift over the chain comes after those that it
 -- kept.
-pub record AreLeft (before chain : Chain) (all : List Tx) (gone : List Hash32) (changed : List Takes) (touched : List Hash32) (entries : List KeptTx) : Type 0 where
+pub record AreLeft (before chain : Chain) (all : List Tx) (gone : List Hash32) (changed : List Takes) (fees : List FeeChange) (touched : List Hash32) (entries : List KeptTx) : Type 0 where
   pub done : List Tx
   pub kept : List Tx
   pub rs : List Tx
@@ -223,6 +234,8 @@ pub record AreLeft (before chain : Chain) (all : List Tx) (gone : List Hash32) (
   pub are : entries ≡ map (kept_tx before all) rs
   pub joins : AllJoin (may_join before) done rs
   pub stands : StandsFor (so_far before all changed kept) chain kept
+  pub fees_are : fees ≡ fee_changes (map (kept_tx before all) done) (so_far before all changed kept)
+  pub matched : Matched (map (kept_tx before all) done) (so_far before all changed kept)
   pub sifted : fold (joined chain) kept rs ≡ sift chain all
   pub told_of : AllByRecursion (λ (c : Takes). is_kept c.txid done ≡ true) changed
   pub gone_of : (x : Hash32) → has gone x ≡ true → is_kept x done ≡ true
@@ -230,7 +243,7 @@ pub record AreLeft (before chain : Chain) (all : List Tx) (gone : List Hash32) (
   pub apart : KeysApart txid rs
   pub told : (s : Hash32) → (list_any (same_hash s) touched || any_differs before all chain kept s rs) ≡ any_differs before all chain [] s all
 
-pub all_left : (before chain : Chain) (all : List Tx) (entries : List KeptTx) → StandsFor entries before all → AreLeft before chain all [] [] [] entries
+pub all_left : (before chain : Chain) (all : List Tx) (entries : List KeptTx) → StandsFor entries before all → AreLeft before chain all [] [] [] [] entries
 all_left before chain all entries h = record {
   done = [];
   kept = [];
@@ -240,6 +253,8 @@ all_left before chain all entries h = record {
   are = h.are;
   joins = joins_of (may_join before) all h.sifted;
   stands = record { sifted = refl; are = refl; once = tt };
+  fees_are = refl;
+  matched = tt;
   sifted = refl;
   told_of = tt;
   gone_of = λ x e. absurd (true≢false (sym e));
@@ -286,17 +301,24 @@ rest_with g ts t h = filter-append (λ (u : Tx). not (g (txid u))) ts (t ∷ [])
 rest_but : (g : Hash32 → Bool) (ts : List Tx) (t : Tx) → g (txid t) ≡ true → rest g (ts ++ t ∷ []) ≡ rest g ts
 rest_but g ts t h = filter-append (λ (u : Tx). not (g (txid u))) ts (t ∷ []) ∙ rw h (append-nil (rest g ts))
 
-abbrev pub StepsOf : Chain → Chain → List Tx → List Hash32 → List Hash32 → List Takes → List Takes → List Hash32 → List Hash32 → KeptTx → Type 0
-StepsOf before chain all gone gone_now changed now touched touched_now k =
-    (kept : List Tx) (t : Tx) → IsNext before all kept gone t k → AreUnspent chain kept → IsSifted before chain all kept t gone gone_now changed now touched touched_now
+abbrev pub StepsOf : Chain → Chain → List Tx → List Hash32 → List Hash32 → List Takes → List Takes → List FeeChange → List FeeChange → List Hash32 → List Hash32 → KeptTx → Type 0
+StepsOf before chain all gone gone_now changed now fees fees_now touched touched_now k =
+    (kept : List Tx) (t : Tx) → IsNext before all kept gone t k → AreUnspent chain kept → IsSifted before chain all kept t gone gone_now changed now fees fees_now touched touched_now
 
-pub one_left : (before chain : Chain) (all : List Tx) (gone gone_now : List Hash32) (changed now : List Takes) (touched touched_now : List Hash32) (k : KeptTx) (ks : List KeptTx)
-    → AreLeft before chain all gone changed touched (k ∷ ks) → StepsOf before chain all gone gone_now changed now touched touched_now k → AreLeft before chain all gone_now now touched_now ks
-one_left before chain all gone gone_now changed now touched touched_now k ks h step = from_rest h.rs h.whole h.are h.joins h.sifted h.new h.apart h.told
+-- none of those done has its txid
+apart_done : (before : Chain) (all : List Tx) (id : Hash32) (ts : List Tx) → is_kept id ts ≡ false
+    → AllByRecursion (λ (a : KeptTx). same_hash a.txid id ≡ false) (map (kept_tx before all) ts)
+apart_done before all id [] h = tt
+apart_done before all id (t ∷ ts) h =
+    let parts = or_parts (same_hash (txid t) id) (is_kept id ts) h in (parts.0, apart_done before all id ts parts.1)
+
+pub one_left : (before chain : Chain) (all : List Tx) (gone gone_now : List Hash32) (changed now : List Takes) (fees fees_now : List FeeChange) (touched touched_now : List Hash32) (k : KeptTx) (ks : List KeptTx)
+    → AreLeft before chain all gone changed fees touched (k ∷ ks) → StepsOf before chain all gone gone_now changed now fees fees_now touched touched_now k → AreLeft before chain all gone_now now fees_now touched_now ks
+one_left before chain all gone gone_now changed now fees fees_now touched touched_now k ks h step = from_rest h.rs h.whole h.are h.joins h.sifted h.new h.apart h.told
   where
     from_rest : (ts : List Tx) → all ≡ h.done ++ ts → k ∷ ks ≡ map (kept_tx before all) ts → AllJoin (may_join before) h.done ts → fold (joined chain) h.kept ts ≡ sift chain all → NoneKept h.done ts
         → KeysApart txid ts → ((s : Hash32) → (list_any (same_hash s) touched || any_differs before all chain h.kept s ts) ≡ any_differs before all chain [] s all)
-        → AreLeft before chain all gone_now now touched_now ks
+        → AreLeft before chain all gone_now now fees_now touched_now ks
     from_rest [] whole are joins sifted new apart told = absurd (cc)
     from_rest (t ∷ ts) whole are joins sifted new apart told = by (may_join chain h.kept t) refl
       where
@@ -322,7 +344,7 @@ one_left before chain all gone gone_now changed now touched touched_now k ks h s
           left = left_inputs before all h.done h.kept (t ∷ ts) gone t.inputs whole h.kept_are (fresh_from before h.done (t ∷ ts) joins) names;
         }
 
-        one : IsSifted before chain all h.kept t gone gone_now changed now touched touched_now
+        one : IsSifted before chain all h.kept t gone gone_now changed now fees fees_now touched touched_now
         one = step h.kept t next (unspent_of chain h.kept (so_far before all changed h.kept) h.stands)
 
         not_kept : is_kept (txid t) h.kept ≡ false
@@ -352,11 +374,17 @@ one_left before chain all gone gone_now changed now touched touched_now k ks h s
             ap (λ b. b || any_differs before all chain (joined chain h.kept t) s ts) (one.touched s)
             ∙ or_moved (list_any (same_hash s) touched) (step_differs before all chain h.kept s t) (any_differs before all chain (joined chain h.kept t) s ts) ∙ told s
 
-        by : (b : Bool) → may_join chain h.kept t ≡ b → AreLeft before chain all gone_now now touched_now ks
+        one_done : map (kept_tx before all) (h.done ++ t ∷ []) ≡ map (kept_tx before all) h.done ++ kept_tx before all t ∷ []
+        one_done = map-append (kept_tx before all) h.done (t ∷ [])
+
+        by : (b : Bool) → may_join chain h.kept t ≡ b → AreLeft before chain all gone_now now fees_now touched_now ks
         by true may =
             let said = one.stayed may in
             let with_it : joined chain h.kept t ≡ h.kept ++ t ∷ [] = ap (λ b. cond b (h.kept ++ t ∷ []) h.kept) may in
             let entries = kept_on before chain all h.kept t changed now off not_kept said.2 said.1 in
+            let paired =
+            matched_stays (map (kept_tx before all) h.done) (so_far before all changed h.kept) (kept_tx before all t) (kept_tx chain h.kept t) h.matched own
+            (apart_done before all (txid t) h.done new.0) in
             record {
               done = h.done ++ t ∷ [];
               kept = h.kept ++ t ∷ [];
@@ -367,6 +395,10 @@ one_left before chain all gone gone_now changed now touched touched_now k ks h s
               joins = joins.1;
               stands = subst (λ (l : List KeptTx). StandsFor l chain (h.kept ++ t ∷ [])) (sym entries)
                   (stands_with (so_far before all changed h.kept) chain h.kept t h.stands (free_joins chain h.kept t may not_kept));
+              fees_are = said.3 ∙ ap (λ (l : List FeeChange). l ++ stay_changes (kept_tx before all t) (kept_tx chain h.kept t)) h.fees_are ∙ sym paired.1
+                  ∙ ap₂ fee_changes (sym one_done) (sym entries);
+              matched = subst (λ (l : List KeptTx). Matched (map (kept_tx before all) (h.done ++ t ∷ [])) l) (sym entries)
+                  (subst (λ (l : List KeptTx). Matched l (so_far before all changed h.kept ++ kept_tx chain h.kept t ∷ [])) (sym one_done) paired.0);
               sifted = ap (λ l. fold (joined chain) l ts) (sym with_it) ∙ sifted;
               told_of = told_on said.1;
               gone_of = λ x e. kept_more x h.done (t ∷ []) (h.gone_of x (ap (λ (l : List Hash32). has l x) (sym said.0) ∙ e));
@@ -377,6 +409,7 @@ one_left before chain all gone gone_now changed now touched touched_now k ks h s
         by false may =
             let said = one.went may in
             let same : joined chain h.kept t ≡ h.kept = ap (λ b. cond b (h.kept ++ t ∷ []) h.kept) may in
+            let paired = matched_went (map (kept_tx before all) h.done) (so_far before all changed h.kept) (kept_tx before all t) h.matched in
             let in_it : has gone_now (txid t) ≡ true = said.0 (txid t) ∙ or_right (has gone (txid t)) (same_hash (txid t) (txid t)) own in
             record {
               done = h.done ++ t ∷ [];
@@ -387,6 +420,10 @@ one_left before chain all gone gone_now changed now touched touched_now k ks h s
               are = others;
               joins = joins.1;
               stands = subst (λ (cs : List Takes). StandsFor (so_far before all cs h.kept) chain h.kept) (sym said.1) h.stands;
+              fees_are = said.2 ∙ ap (λ (l : List FeeChange). l ++ fee_change false (kept_tx before all t) ∷ []) h.fees_are ∙ sym paired.1
+                  ∙ ap₂ fee_changes (sym one_done) (ap (λ (cs : List Takes). so_far before all cs h.kept) (sym said.1));
+              matched = subst (λ (cs : List Takes). Matched (map (kept_tx before all) (h.done ++ t ∷ [])) (so_far before all cs h.kept)) (sym said.1)
+                  (subst (λ (l : List KeptTx). Matched l (so_far before all changed h.kept)) (sym one_done) paired.0);
               sifted = ap (λ l. fold (joined chain) l ts) (sym same) ∙ sifted;
               told_of = subst Told (sym said.1) told_old;
               gone_of = λ x e. gone_more x (or_cases (has gone x) (same_hash x (txid t)) (sym (said.0 x) ∙ e));
@@ -413,14 +450,16 @@ without_is before all ids (t ∷ ts) = by (has ids (txid t)) (without_is before 
     by true more = more
     by false more = ap (λ l. kept_tx before all t ∷ l) more
 
-pub none_left : (before chain : Chain) (all : List Tx) (entries : List KeptTx) (gone : List Hash32) (changed : List Takes) (touched : List Hash32) → StandsFor entries before all → AllDiffer touched
-    → AreLeft before chain all gone changed touched []
+pub none_left : (before chain : Chain) (all : List Tx) (entries : List KeptTx) (gone : List Hash32) (changed : List Takes) (fees : List FeeChange) (touched : List Hash32) → StandsFor entries before all → AllDiffer touched
+    → AreLeft before chain all gone changed fees touched []
     → StandsFor (map (settled changed) (without gone entries)) chain (sift chain all) × AreChanged before all chain (sift chain all) touched
-none_left before chain all entries gone changed touched stood once h = from_rest h.rs h.whole h.are h.sifted h.told
+    × (fees ≡ fee_changes entries (map (settled changed) (without gone entries)))
+none_left before chain all entries gone changed fees touched stood once h = from_rest h.rs h.whole h.are h.sifted h.told
   where
     from_rest : (ts : List Tx) → all ≡ h.done ++ ts → [] ≡ map (kept_tx before all) ts → fold (joined chain) h.kept ts ≡ sift chain all
         → ((s : Hash32) → (list_any (same_hash s) touched || any_differs before all chain h.kept s ts) ≡ any_differs before all chain [] s all)
         → StandsFor (map (settled changed) (without gone entries)) chain (sift chain all) × AreChanged before all chain (sift chain all) touched
+        × (fees ≡ fee_changes entries (map (settled changed) (without gone entries)))
     from_rest [] whole are sifted told =
         let every : all ≡ h.done = whole ∙ append-nil h.done in
         let left : h.kept ≡ rest (has gone) all = h.kept_are ∙ ap (rest (has gone)) (sym every) in
@@ -428,6 +467,7 @@ none_left before chain all entries gone changed touched stood once h = from_rest
         ap (λ l. map (settled changed) (without gone l)) stood.are ∙ ap (map (settled changed)) (without_is before all gone all ∙ ap (map (kept_tx before all)) (sym left)) in (
           subst (λ (l : List Tx). StandsFor (map (settled changed) (without gone entries)) chain l) sifted (subst (λ (l : List KeptTx). StandsFor l chain h.kept) (sym now) h.stands),
           sift_changes before chain entries all touched stood once (λ s. sym (or_false (list_any (same_hash s) touched)) ∙ told s),
+          h.fees_are ∙ ap₂ fee_changes (sym (stood.are ∙ ap (map (kept_tx before all)) every)) (sym now),
         )
     from_rest (t ∷ ts) whole are sifted told = absurd (cc)
 
@@ -448,23 +488,24 @@ counts_moved {T = T} {U = U} s e d a b n f still is same k =
 
 -- ---- the slots one after the other
 
-pub left_start : (before chain : Chain) (all : List Tx) (gone : List Hash32) (changed : List Takes) (touched : List Hash32) (es ss : List Slot) → gone ≡ [] → changed ≡ [] → touched ≡ [] → ss ≡ es
-    → StandsFor (standing es) before all → AreLeft before chain all gone changed touched (standing ss)
-left_start before chain all gone changed touched es ss one two three same h =
-    subst (λ (l : List Slot). AreLeft before chain all gone changed touched (standing l)) (sym same)
-    (subst (λ (l : List Hash32). AreLeft before chain all gone changed l (standing es)) (sym three)
-    (subst (λ (l : List Takes). AreLeft before chain all gone l [] (standing es)) (sym two)
-    (subst (λ (l : List Hash32). AreLeft before chain all l [] [] (standing es)) (sym one) (all_left before chain all (standing es) h))))
+pub left_start : (before chain : Chain) (all : List Tx) (gone : List Hash32) (changed : List Takes) (fees : List FeeChange) (touched : List Hash32) (es ss : List Slot) → gone ≡ [] → changed ≡ [] → fees ≡ [] → touched ≡ [] → ss ≡ es
+    → StandsFor (standing es) before all → AreLeft before chain all gone changed fees touched (standing ss)
+left_start before chain all gone changed fees touched es ss one two none three same h =
+    subst (λ (l : List Slot). AreLeft before chain all gone changed fees touched (standing l)) (sym same)
+    (subst (λ (l : List Hash32). AreLeft before chain all gone changed fees l (standing es)) (sym three)
+    (subst (λ (l : List FeeChange). AreLeft before chain all gone changed l [] (standing es)) (sym none)
+    (subst (λ (l : List Takes). AreLeft before chain all gone l [] [] (standing es)) (sym two)
+    (subst (λ (l : List Hash32). AreLeft before chain all l [] [] [] (standing es)) (sym one) (all_left before chain all (standing es) h)))))
 
-pub left_some : (before chain : Chain) (all : List Tx) (gone gone_now : List Hash32) (changed now : List Takes) (touched touched_now : List Hash32) (s t : List Slot) (id : Hash32) (slot : Option KeptTx) (k : KeptTx)
-    → s ≡ (id, slot) ∷ t → slot ≡ Some k → AreLeft before chain all gone changed touched (standing s) → StepsOf before chain all gone gone_now changed now touched touched_now k
-    → AreLeft before chain all gone_now now touched_now (standing t)
-left_some before chain all gone gone_now changed now touched touched_now s t id slot k first some h step =
+pub left_some : (before chain : Chain) (all : List Tx) (gone gone_now : List Hash32) (changed now : List Takes) (fees fees_now : List FeeChange) (touched touched_now : List Hash32) (s t : List Slot) (id : Hash32) (slot : Option KeptTx) (k : KeptTx)
+    → s ≡ (id, slot) ∷ t → slot ≡ Some k → AreLeft before chain all gone changed fees touched (standing s) → StepsOf before chain all gone gone_now changed now fees fees_now touched touched_now k
+    → AreLeft before chain all gone_now now fees_now touched_now (standing t)
+left_some before chain all gone gone_now changed now fees fees_now touched touched_now s t id slot k first some h step =
     let is : standing s ≡ k ∷ standing t = ap standing first ∙ ap (λ x. option_to_list x ++ standing t) some in
-    one_left before chain all gone gone_now changed now touched touched_now k (standing t) (subst (λ (l : List KeptTx). AreLeft before chain all gone changed touched l) is h) step
+    one_left before chain all gone gone_now changed now fees fees_now touched touched_now k (standing t) (subst (λ (l : List KeptTx). AreLeft before chain all gone changed fees touched l) is h) step
 
-pub left_none : (before chain : Chain) (all : List Tx) (gone : List Hash32) (changed : List Takes) (touched : List Hash32) (s t : List Slot) (id : Hash32) (slot : Option KeptTx) → s ≡ (id, slot) ∷ t → slot ≡ None
-    → AreLeft before chain all gone changed touched (standing s) → AreLeft before chain all gone changed touched (standing t)
-left_none before chain all gone changed touched s t id slot first none h =
+pub left_none : (before chain : Chain) (all : List Tx) (gone : List Hash32) (changed : List Takes) (fees : List FeeChange) (touched : List Hash32) (s t : List Slot) (id : Hash32) (slot : Option KeptTx) → s ≡ (id, slot) ∷ t → slot ≡ None
+    → AreLeft before chain all gone changed fees touched (standing s) → AreLeft before chain all gone changed fees touched (standing t)
+left_none before chain all gone changed fees touched s t id slot first none h =
     let is : standing s ≡ standing t = ap standing first ∙ ap (λ x. option_to_list x ++ standing t) none in
-    subst (λ (l : List KeptTx). AreLeft before chain all gone changed touched l) is h
+    subst (λ (l : List KeptTx). AreLeft before chain all gone changed fees touched l) is h

@@ -1,5 +1,5 @@
 // Kept transactions over another chain.
-ghost use Rattle.std.specs.Prelude.{◌≡◌, ◌-◌, ◌||◌, true, List, map, OnOk, IfOk, if◌then◌else◌};
+ghost use Rattle.std.specs.Prelude.{◌≡◌, ◌-◌, ◌||◌, ◌++◌, ◌∷◌, [], true, false, List, map, OnOk, IfOk, if◌then◌else◌};
 ghost use Rattle.std.specs.List.{list_any};
 ghost use Rattle.el_outside.specs.Counts.{CountsOnly};
 ghost use Rattle.el_base.specs.declared.hash.Hash32 as hash_shape;
@@ -11,6 +11,8 @@ ghost use Rattle.el_mempool.specs.Sift.{total_held, sift};
 ghost use Rattle.el_mempool.specs.Standing.{StandsFor, AreChanged, is_at_script, is_coin_at};
 ghost use Rattle.el_mempool.specs.Unconfirmed.{has_script};
 ghost use Rattle.el_mempool.specs.Moving.{differs_at};
+ghost use Rattle.el_mempool.specs.Fees.{fee_change, stay_changes, fee_changes, AreFeeChanges};
+ghost use Rattle.el_mempool.specs.declared.held.KeptTx as kept_shape;
 ghost use Rattle.el_kept.specs.declared.listing.Listing as listing_shape;
 ghost use Rattle.el_kept.specs.Listings.{txid_of, is_in, AreListed};
 ghost use Rattle.el_kept.specs.Tables.{standing, slot, has, with_takes, without, is_of, retaken, IsTable, HasFewSlots};
@@ -26,7 +28,7 @@ use el_kept::{
     Listing, Table, Taken, Takes, empty_table, fee_of, is_as_was, is_of_kept, kept_under,
     list_under, retake, scripts_of, take_out_all, tidy, touch_entry, unlist,
 };
-use el_mempool::{KeptTx, Source};
+use el_mempool::{FeeChange, KeptTx, Source};
 use el_model::{Ledger, QueryFault};
 use std::alloc::Global;
 use std::collections::BTreeSet;
@@ -38,6 +40,8 @@ struct Sifted {
     gone: Touched,
     // What others take now, where it is another thing than before.
     changed: Listed<Takes>,
+    // What changes of the fees.
+    fees: Listed<FeeChange>,
     // The script hashes at which clients see another thing.
     touched: Touched,
 }
@@ -64,6 +68,23 @@ fn list_again(
     list_under(listings, &entry.txid, scripts.list())
 }
 
+// The entry stays with that fee, which may be another than it was.
+fn add_stayed(entry: &KeptTx, fee: u64, fees: &mut Listed<FeeChange>) -> Result<(), OutOfMemory>
+    ensures { (next : kept_shape.KeptTx) → next.fee ≡ fee → next.vsize ≡ entry.now.vsize
+        → OnOk result (fees.new ≡ fees.old ++ stay_changes entry.now next) }
+{
+    if entry.fee == fee {
+        return Ok(());
+    }
+    fees.push(FeeChange::of(entry, false))?;
+    fees.push(FeeChange {
+        added: true,
+        fee,
+        vsize: entry.vsize,
+    })?;
+    Ok(())
+}
+
 // The entry stays and takes these, and the script hashes are added at which clients then see another thing
 // of it.
 fn keep(
@@ -71,11 +92,14 @@ fn keep(
     entry: &KeptTx,
     taken: Taken,
     changed: &mut Listed<Takes>,
+    fees: &mut Listed<FeeChange>,
     touched: &mut Touched,
 ) -> Result<(), OutOfMemory>
     ensures changed { OnOk result (IsKeptOn entry.now (with_takes entry.now taken.flag
         (total_sources taken.sources.items - total_held entry.now.outputs) taken.sources.items)
         changed.old changed.new) }
+    ensures fees { OnOk result (fees.new ≡ fees.old ++ stay_changes entry.now (with_takes entry.now taken.flag
+        (total_sources taken.sources.items - total_held entry.now.outputs) taken.sources.items)) }
     ensures touched { (s : hash_shape.Hash32) → OnOk result (list_any (same_hash s) touched.new
         ≡ (list_any (same_hash s) touched.old || differs_at s.0 entry.now
         (with_takes entry.now taken.flag
@@ -87,6 +111,7 @@ fn keep(
     } = taken;
     let fee = fee_of(inputs.as_slice(), entry.outputs.as_slice())?;
     touch_changes(alloc, entry, flag, fee, inputs.as_slice(), touched)?;
+    add_stayed(entry, fee, fees)?;
     if is_as_was(entry, flag, fee, inputs.as_slice()) {
         return Ok(());
     }
@@ -100,14 +125,21 @@ fn keep(
 }
 
 // The entry goes, and its script hashes are added.
-fn leave(entry: &KeptTx, gone: &mut Touched, touched: &mut Touched) -> Result<(), OutOfMemory>
+fn leave(
+    entry: &KeptTx,
+    gone: &mut Touched,
+    fees: &mut Listed<FeeChange>,
+    touched: &mut Touched,
+) -> Result<(), OutOfMemory>
     ensures gone { (id : hash_shape.Hash32) → OnOk result (has gone.new id
         ≡ (has gone.old id || same_hash id entry.now.txid)) }
+    ensures fees { OnOk result (fees.new ≡ fees.old ++ fee_change false entry.now ∷ []) }
     ensures touched { (s : hash_shape.Hash32) → OnOk result (list_any (same_hash s) touched.new
         ≡ (list_any (same_hash s) touched.old || is_at_script s.0 entry.now)) }
 {
     gone.add(entry.txid)?;
     touch_entry(entry, touched)?;
+    fees.push(FeeChange::of(entry, false))?;
     Ok(())
 }
 
@@ -125,13 +157,21 @@ fn sift_one<G: Ledger>(
         → IsNext before all kept found.old.gone t entry.now → IsOver table.now before all
         → AreUnspent chain kept → Knows chain confirmed.now entry.now → G.stands ledger.old chain
         → OnOk result (IsSifted before chain all kept t found.old.gone found.new.gone
-        found.old.changed found.new.changed found.old.touched found.new.touched) }
+        found.old.changed found.new.changed found.old.fees found.new.fees
+        found.old.touched found.new.touched) }
     ensures quiet { Asked ⟦<G as Ledger>⟧ ledger.old ledger.new }
     ensures cause { CountsOnly (G.faults ledger.old) (G.faults ledger.new) QueryFault.DiskFailed result }
 {
     match renewed(alloc, table, &found.gone, confirmed, ledger, entry)? {
-        Some(taken) => keep(alloc, entry, taken, &mut found.changed, &mut found.touched)?,
-        None => leave(entry, &mut found.gone, &mut found.touched)?,
+        Some(taken) => keep(
+            alloc,
+            entry,
+            taken,
+            &mut found.changed,
+            &mut found.fees,
+            &mut found.touched,
+        )?,
+        None => leave(entry, &mut found.gone, &mut found.fees, &mut found.touched)?,
     }
     Ok(())
 }
@@ -148,13 +188,16 @@ fn sift_all<G: Ledger>(
         → KnowsAll chain confirmed.now (standing table.now.kept.entries) → G.stands ledger.old chain
         → IfOk result (λ found. StandsFor (map (settled found.changed)
         (without found.gone (standing table.now.kept.entries))) chain (sift chain all)
-        × AreChanged before all chain (sift chain all) found.touched) }
+        × AreChanged before all chain (sift chain all) found.touched
+        × (found.fees ≡ fee_changes (standing table.now.kept.entries) (map (settled found.changed)
+        (without found.gone (standing table.now.kept.entries))))) }
     ensures quiet { Asked ⟦<G as Ledger>⟧ ledger.old ledger.new }
     ensures cause { CountsOnly (G.faults ledger.old) (G.faults ledger.new) QueryFault.DiskFailed result }
 {
     let mut found = Sifted {
         gone: Touched::new(alloc),
         changed: Listed::new(alloc),
+        fees: Listed::new(alloc),
         touched: Touched::new(alloc),
     };
     for (_, slot) in table.kept.iter() {
@@ -233,6 +276,7 @@ fn sift_in_place<G: Ledger>(
     alloc: Global,
     table: &mut Table,
     listings: &mut BTreeSet<Listing>,
+    changes: &mut Vec<FeeChange>,
     ledger: &mut G,
 ) -> Result<Touched, QueryFault>
     requires live { G.is_live ledger.old }
@@ -245,6 +289,10 @@ fn sift_in_place<G: Ledger>(
         → StandsFor (standing table.old.kept.entries) before kept → G.stands ledger.old chain
         → IfOk result (λ touched. StandsFor (standing table.new.kept.entries) chain (sift chain kept)
         × AreChanged before kept chain (sift chain kept) touched) }
+    ensures fees { (before chain : Chain) (kept : List shape.Tx)
+        → StandsFor (standing table.old.kept.entries) before kept → G.stands ledger.old chain
+        → OnOk result (AreFeeChanges (standing table.old.kept.entries) (standing table.new.kept.entries)
+        changes.new.items) }
     ensures quiet { Asked ⟦<G as Ledger>⟧ ledger.old ledger.new }
     ensures cause { CountsOnly (G.faults ledger.old) (G.faults ledger.new) QueryFault.DiskFailed result }
 {
@@ -252,15 +300,18 @@ fn sift_in_place<G: Ledger>(
     let Sifted {
         gone,
         changed,
+        fees,
         touched,
     } = sift_all(alloc, table, &confirmed, ledger)?;
     take_out_all(table, listings, gone.list());
     settle_all(alloc, table, listings, changed)?;
     tidy(table);
+    *changes = fees.into_vec();
     Ok(touched)
 }
 
-/// Keeps what the sift keeps over the ledger's chain, and gives the script hashes that changed.
+/// Keeps what the sift keeps over the ledger's chain, and gives the script hashes that changed; `changes`
+/// then has what changed of the fees.
 ///
 /// # Errors
 ///
@@ -269,6 +320,7 @@ pub fn sift_table<G: Ledger>(
     alloc: Global,
     table: &mut Table,
     listings: &mut BTreeSet<Listing>,
+    changes: &mut Vec<FeeChange>,
     ledger: &mut G,
 ) -> Result<Touched, QueryFault>
     requires live { G.is_live ledger.old }
@@ -281,10 +333,14 @@ pub fn sift_table<G: Ledger>(
         → StandsFor (standing table.old.kept.entries) before kept → G.stands ledger.old chain
         → IfOk result (λ touched. StandsFor (standing table.new.kept.entries) chain (sift chain kept)
         × AreChanged before kept chain (sift chain kept) touched) }
+    ensures fees { (before chain : Chain) (kept : List shape.Tx)
+        → StandsFor (standing table.old.kept.entries) before kept → G.stands ledger.old chain
+        → OnOk result (AreFeeChanges (standing table.old.kept.entries) (standing table.new.kept.entries)
+        changes.new.items) }
     ensures quiet { Asked ⟦<G as Ledger>⟧ ledger.old ledger.new }
     ensures cause { CountsOnly (G.faults ledger.old) (G.faults ledger.new) QueryFault.DiskFailed result }
 {
-    match sift_in_place(alloc, table, listings, ledger) {
+    match sift_in_place(alloc, table, listings, changes, ledger) {
         Ok(touched) => Ok(touched),
         Err(fault) => {
             *table = empty_table(alloc);

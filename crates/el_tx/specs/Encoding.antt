@@ -11,7 +11,7 @@ use Rattle.el_tx.specs.declared.types.TxOut.{TxOut}
 use Rattle.el_tx.specs.declared.types.Tx.{Tx}
 use Rattle.el_tx.specs.declared.types.TheConstants.{MAX_MONEY}
 
--- bytes after their number
+-- bytes, after how many there are as a CompactSize
 abbrev pub sized : List ℕ → List ℕ
 sized bytes = compact (length bytes) ++ bytes
 

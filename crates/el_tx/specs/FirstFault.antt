@@ -34,7 +34,7 @@ abbrev pub fault_of : CompactFault → TxFault
 fault_of (number.Short place) = fault.Short place
 fault_of (number.LongSpelling place) = fault.LongSpelling place
 
--- a CompactSize
+-- the first fault is that of a CompactSize that should stand here
 abbrev pub FaultInNumber : ℕ → List ℕ → TxFault → Type 0
 FaultInNumber place bytes f =
     (found : CompactFault) × FirstCompactFault place bytes found × (f ≡ fault_of found)
@@ -46,7 +46,7 @@ pub data FaultInCounted (Next : ℕ → ℕ → List ℕ → TxFault → Type 0)
   after_number : (n : ℕ) → n < 2 ^ 64 → After (compact n) (Next n) place bytes f
       → FaultInCounted Next place bytes f
 
--- bytes after their number
+-- bytes after their number: a CompactSize, and then as many bytes
 abbrev pub FaultInSized : ℕ → List ℕ → TxFault → Type 0
 FaultInSized place bytes f = FaultInCounted FaultInField place bytes f
 
@@ -111,7 +111,7 @@ FaultInStack place bytes f =
 abbrev pub IsStack : List (List ℕ) → Type 0
 IsStack stack = Countable stack × AllByRecursion IsItem stack
 
--- n stacks
+-- the witnesses of n inputs
 abbrev pub FaultInStacks : ℕ → ℕ → List ℕ → TxFault → Type 0
 FaultInStacks n place bytes f =
     FaultAmong (AllByRecursion IsStack) (counted sized) (λ _. FaultInStack) n place bytes f

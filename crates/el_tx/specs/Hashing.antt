@@ -12,7 +12,7 @@ use Rattle.el_tx.specs.Encoding.{stripped_encoding, witness_encoding, has_witnes
 abbrev pub txid : Tx → Hash32
 txid t = record { 0 = sha256d (stripped_encoding t) }
 
--- the whole encoding
+-- the whole encoding: with witnesses where there are any (BIP 144)
 abbrev pub full_encoding : Tx → List ℕ
 full_encoding t = if has_witness t then witness_encoding t else stripped_encoding t
 

@@ -1,8 +1,10 @@
 -- What goes with a kept transaction that is dropped.
-use Rattle.std.specs.Prelude.{◌≡◌, ◌⊎◌, ◌<◌, ℕ, true, if◌then◌else◌, List, [], ◌∷◌, ◌++◌, length, Option, None, Some}
+use Rattle.std.specs.Prelude.{◌≡◌, ◌⊎◌, ◌<◌, ℕ, true, false, if◌then◌else◌, List, [], ◌∷◌, ◌++◌, length, Option, None, Some}
 use Rattle.el_base.specs.declared.hash.Hash32.{Hash32}
 use Rattle.el_tx.specs.declared.types.Outpoint.{Outpoint}
 use Rattle.el_mempool.specs.declared.held.KeptTx.{KeptTx}
+use Rattle.el_mempool.specs.declared.fees.FeeChange.{FeeChange}
+use Rattle.el_mempool.specs.Fees.{fee_change}
 use Rattle.el_kept.specs.Tables.{has}
 
 -- these, with one more unless it is there
@@ -14,6 +16,11 @@ with_taker (Some x) ids = if has ids x then ids else ids ++ x ∷ []
 abbrev pub size : Option KeptTx → ℕ
 size None = 0
 size (Some k) = length k.outputs
+
+-- that it goes, if it is kept
+abbrev pub gone_change : Option KeptTx → List FeeChange
+gone_change None = []
+gone_change (Some k) = fee_change false k ∷ []
 
 -- an output of the transaction
 abbrev pub output : Hash32 → ℕ → Outpoint

@@ -12,6 +12,8 @@ use Rattle.el_chain.specs.Headers.{same_hash}
 use Rattle.el_mempool.specs.declared.held.Held.{Held}
 use Rattle.el_mempool.specs.declared.held.Source.{Source}
 use Rattle.el_mempool.specs.declared.held.KeptTx.{KeptTx}
+use Rattle.el_mempool.specs.declared.fees.FeeChange.{FeeChange}
+use Rattle.el_mempool.specs.Fees.{fee_change, stay_changes}
 use Rattle.el_mempool.specs.Sift.{coin_named, output_among, named, any_takes, is_taken, is_confirmed, may_join}
 use Rattle.el_mempool.specs.Standing.{kept_tx}
 use Rattle.el_mempool.specs.Moving.{step_differs}
@@ -57,7 +59,7 @@ AreSeen left chain kept ss = AllByRecursion (λ (s : Source). (left s.from ≡ o
 abbrev pub Knows : Chain → List Hash32 → KeptTx → Type 0
 Knows chain confirmed k = has confirmed k.txid ≡ is_confirmed chain k.txid
 
--- and that of each of these
+-- these txids tell of each of these entries whether the chain has its transaction
 abbrev pub KnowsAll : Chain → List Hash32 → List KeptTx → Type 0
 KnowsAll chain confirmed ks = AllByRecursion (λ (k : KeptTx). Knows chain confirmed k) ks
 
@@ -85,14 +87,16 @@ abbrev pub IsKeptOn : KeptTx → KeptTx → List Takes → List Takes → Type 0
 IsKeptOn k l old new = ((l ≡ k) × (new ≡ old)) ⊎ (new ≡ old ++ takes_of l ∷ [])
 
 -- The sift over the chain came to the transaction after those that it kept: its txid is one more that is
--- gone, or what it takes is told; and which script hashes are added.
+-- gone, or what it takes is told; what changes of the fees; and which script hashes are added.
 pub record IsSifted (before chain : Chain) (all kept : List Tx) (t : Tx) (gone gone_now : List Hash32)
-    (changed changed_now : List Takes) (old new : List Hash32) : Type 0 where
+    (changed changed_now : List Takes) (fees fees_now : List FeeChange) (old new : List Hash32) : Type 0 where
   pub went : may_join chain kept t ≡ false
       → ((id : Hash32) → has gone_now id ≡ (has gone id || same_hash id (txid t))) × (changed_now ≡ changed)
+      × (fees_now ≡ fees ++ fee_change false (kept_tx before all t) ∷ [])
   pub stayed : may_join chain kept t ≡ true
       → (gone_now ≡ gone) × IsKeptOn (kept_tx before all t) (kept_tx chain kept t) changed changed_now
       × (same_froms (kept_tx before all t).inputs (kept_tx chain kept t).inputs ≡ true)
+      × (fees_now ≡ fees ++ stay_changes (kept_tx before all t) (kept_tx chain kept t))
   pub touched : (s : Hash32) → list_any (same_hash s) new
       ≡ (list_any (same_hash s) old || step_differs before all chain kept s t)
 

@@ -16,16 +16,18 @@ use Rattle.el_tx.specs.declared.types.Tx.{Tx}
 use Rattle.el_tx.specs.Encoding.{max_money, total_value, some_witness}
 use Rattle.el_tx.specs.FirstFault.{fault_of}
 
+-- reading goes on with what was read, and ends with the first fault; lines after `do` are read by it
 infixl 10 ◌>>=◌
 abbrev pub ◌>>=◌ : {A B : Type 0} → Result A TxFault → (A → Result B TxFault) → Result B TxFault
 (Ok x) >>= f = f x
 (Err e) >>= f = Err e
 
--- What a reader returned, seen by view, and where it left off, are what reading gives, unless memory ran out.
+-- The reader failed as reading does: with that fault, unless memory ran out.
 abbrev pub Fails : {Y : Type 0} → ReadError → Result Y TxFault → Type 0
 Fails errors.Memory read = Unit {0}
 Fails (errors.Fault f) read = read ≡ Err f
 
+-- What a reader returned, seen by view, and where it left off, are what reading gives, unless memory ran out.
 abbrev pub Gives : {X Y : Type 0} → (X → Y) → Result X ReadError → Left → Result (Y × Left) TxFault → Type 0
 Gives view (Ok x) next read = read ≡ Ok (view x, next)
 Gives view (Err e) next read = Fails e read
@@ -41,11 +43,12 @@ number_at w left = do
   bytes ← bytes_at (byte_len w) left
   Ok (from_le_bytes w bytes.0, bytes.1)
 
+-- a fault of a CompactSize as one of the transaction
 abbrev pub with_fault : {A : Type 0} → Result A CompactFault → Result A TxFault
 with_fault (Ok x) = Ok x
 with_fault (Err e) = Err (fault_of e)
 
--- a CompactSize
+-- a CompactSize (Bitcoin's variable-length number)
 unfoldable pub count_at : Left → Result (ℕ × Left) TxFault
 count_at left = with_fault (compact_at left)
 
@@ -55,6 +58,7 @@ sized_at left = do
   n ← count_at left
   bytes_at n.0 n.1
 
+-- an outpoint: the txid in inner order, and the index in four bytes
 unfoldable pub outpoint_at : Left → Result (Outpoint × Left) TxFault
 outpoint_at left = do
   txid ← bytes_at 32 left
@@ -77,6 +81,7 @@ many_at next before (suc n) left = do
   x ← next before left
   many_at next (before ++ x.0 ∷ []) n x.1
 
+-- so many inputs, as yet without their witnesses
 abbrev pub inputs_at : ℕ → Left → Result (List TxIn × Left) TxFault
 inputs_at n left = many_at (λ _. input_at) [] n left
 
@@ -86,19 +91,22 @@ value_at index sum left = do
   value ← number_at w64 left
   if nat_lt max_money (sum + value.0) then Err (fault.Money index) else Ok value
 
+-- the output with this index, after outputs of this sum: its value in eight bytes, and its script
 unfoldable pub output_at : ℕ → ℕ → Left → Result (TxOut × Left) TxFault
 output_at index sum left = do
   value ← value_at index sum left
   script ← sized_at value.1
   Ok (record { value = value.0; script = script.0 }, script.1)
 
--- the output after these
+-- the output after these outputs
 abbrev pub next_output_at : List TxOut → Left → Result (TxOut × Left) TxFault
 next_output_at before left = output_at (length before) (total_value before) left
 
+-- so many outputs
 abbrev pub outputs_at : ℕ → Left → Result (List TxOut × Left) TxFault
 outputs_at n left = many_at next_output_at [] n left
 
+-- so many items of a witness, each after its size
 abbrev pub items_at : ℕ → Left → Result (List (List ℕ) × Left) TxFault
 items_at n left = many_at (λ _. sized_at) [] n left
 
@@ -115,24 +123,25 @@ stacks_at before (i ∷ is) left = do
   stack ← stack_at left
   stacks_at (before ++ record i { witness = stack.0 } ∷ []) is stack.1
 
--- the same, and some witness is not empty
+-- the inputs with their witnesses, of which one at least is not empty (BIP 144)
 unfoldable pub witnesses_at : List TxIn → Left → Result (List TxIn × Left) TxFault
 witnesses_at is left = do
   inputs ← stacks_at [] is left
   if some_witness inputs.0 then Ok inputs else Err fault.EmptyWitness
 
--- at least one input
+-- the inputs, of which there is one at least
 unfoldable pub some_inputs_at : Left → Result (List TxIn × Left) TxFault
 some_inputs_at left = do
   n ← count_at left
   if n.0 == 0 then Err fault.NoInputs else inputs_at n.0 n.1
 
--- at least one output
+-- the outputs, of which there is one at least
 unfoldable pub some_outputs_at : Left → Result (List TxOut × Left) TxFault
 some_outputs_at left = do
   n ← count_at left
   if n.0 == 0 then Err fault.NoOutputs else outputs_at n.0 n.1
 
+-- the inputs, as yet without their witnesses, and the outputs
 unfoldable pub body_at : Left → Result ((List TxIn × List TxOut) × Left) TxFault
 body_at left = do
   inputs ← some_inputs_at left
@@ -156,6 +165,7 @@ form_at left = if is_marked left.rest then (do
   marker ← bytes_at 1 left
   flag_at marker.1) else Ok (false, left)
 
+-- the version in four bytes, in two's complement
 unfoldable pub version_at : Left → Result (ℤ × Left) TxFault
 version_at left = do
   version ← number_at w32 left
@@ -168,7 +178,7 @@ stripped_at version left = do
   lock ← number_at w32 body.1
   Ok (record { version = version; inputs = body.0.0; outputs = body.0.1; lock = lock.0 }, lock.1)
 
--- after marker and flag
+-- after marker and flag, in the form with witnesses (BIP 144)
 unfoldable pub witnessed_at : ℤ → Left → Result (Tx × Left) TxFault
 witnessed_at version left = do
   body ← body_at left
@@ -176,6 +186,7 @@ witnessed_at version left = do
   lock ← number_at w32 inputs.1
   Ok (record { version = version; inputs = inputs.0; outputs = body.0.1; lock = lock.0 }, lock.1)
 
+-- a transaction in either form (Bitcoin's serialization; BIP 144 for the form with witnesses)
 unfoldable pub tx_at : Left → Result (Tx × Left) TxFault
 tx_at left = do
   version ← version_at left

@@ -37,6 +37,6 @@ returns-clause-joins g c = λ chain kept over stood.
       free = all_is c.args.table.now c.args.limits.now chain kept c.in_ok-tx.tx c.args.bytes.now c.in_ok-taken.taken.sources.items c.as_slice-outputs.result.now (length c.args.bytes.now)
           c.in_ok-refusal.field-0 c.lack_of.result None over c.in_ok-tx.ensures.read (c.in_ok-refusal.ensures.first chain kept over stood) c.in_default.is
           (c.in_ok-taken.ensures.none chain kept over then) (c.in_ok-taken.ensures.found chain kept over then) c.as_slice-outputs.ensures refl room c.in_default-lack_of.is;
-      is = kept_is c.args.table.now chain kept c.in_ok-tx.tx c.args.bytes.now c.in_ok-id.id c.in_ok-taken.taken.sources.items c.as_slice-outputs.result.now c.in_ok-kept.kept over (c.in_ok-taken.ensures.none chain kept over then) c.in_ok-tx.ensures.read c.in_ok-id.ensures
-          (c.in_ok-taken.ensures.found chain kept over then) c.as_slice-outputs.ensures (rw c.in_ok-taken.ensures.flag at c.in_ok-kept.ensures);
+      is = kept_is c.args.table.now chain kept c.in_ok-tx.tx c.args.bytes.now c.in_ok-id.id c.in_ok-taken.taken.sources.items c.in_ok-tx.tx.outputs c.in_ok-kept.kept over (c.in_ok-taken.ensures.none chain kept over then) c.in_ok-tx.ensures.read c.in_ok-id.ensures
+          (c.in_ok-taken.ensures.found chain kept over then) refl (rw c.in_ok-taken.ensures.flag at c.in_ok-kept.ensures);
     }

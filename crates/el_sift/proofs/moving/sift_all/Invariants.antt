@@ -20,5 +20,5 @@ invariant-loop-slot g l =
       still : d.faults l.ledger ≡ d.faults l.initial.ledger;
       told : (chain : Chain) → KnowsAll chain l.confirmed (standing l.table.kept.entries) → KnowsAll chain l.confirmed (standing l.slot-iterator);
       left : (before chain : Chain) (all : List Tx) → IsOver l.table before all → KnowsAll chain l.confirmed (standing l.table.kept.entries) → d.stands l.initial.ledger chain
-          → AreLeft before chain all l.found.gone l.found.changed l.found.touched (standing l.slot-iterator);
+          → AreLeft before chain all l.found.gone l.found.changed l.found.fees l.found.touched (standing l.slot-iterator);
     }

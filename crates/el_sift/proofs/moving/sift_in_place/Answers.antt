@@ -5,6 +5,8 @@ use Rattle.el_mempool.specs.Sift.{sift}
 use Rattle.el_mempool.specs.Standing.{StandsFor}
 use Rattle.el_kept.specs.Tables.{standing, without}
 use Rattle.el_sift.specs.within.Renewal.{settled}
+use Rattle.el_mempool.specs.Fees.{fee_changes}
+use Rattle.el_mempool.proofs.FeeChanges.{changes_are}
 use Rattle.el_kept.proofs.Lookups.{is_over}
 use Rattle.el_sift.proofs.moving.sift_in_place.Goals as goal
 
@@ -14,3 +16,11 @@ returns-clause-sifted g c = λ before chain kept h stood.
     let are = c.tidy.ensures.table.are ∙ c.in_ok-settle_all.ensures.table.are ∙ ap (map (settled c.in_ok-gone.field-0.changed))
     (c.take_out_all.ensures.table.are ∙ ap (λ ids. without ids (standing c.args.table.now.kept.entries)) c.list.ensures.same) in
     (subst (λ (l : List KeptTx). StandsFor l chain (sift chain kept)) (sym are) said.0, said.1)
+
+pub returns-clause-fees : goal.returns-clause-fees
+returns-clause-fees g c = λ before chain kept h stood.
+    let said = c.in_ok-gone.ensures.sifted before chain kept (is_over c.args.table.now before kept c.requires.table h) (c.in_ok-confirmed.ensures.told chain stood) (c.in_ok-confirmed.ensures.quiet.stays.still_stands chain stood) in
+    let are = c.tidy.ensures.table.are ∙ c.in_ok-settle_all.ensures.table.are ∙ ap (map (settled c.in_ok-gone.field-0.changed))
+    (c.take_out_all.ensures.table.are ∙ ap (λ ids. without ids (standing c.args.table.now.kept.entries)) c.list.ensures.same) in
+    changes_are (standing c.args.table.now.kept.entries) (standing c.tidy.new.table.kept.entries) c.into_vec.result.items
+    (c.into_vec.ensures ∙ said.2 ∙ ap (fee_changes (standing c.args.table.now.kept.entries)) (sym are))
