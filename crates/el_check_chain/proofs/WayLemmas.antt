@@ -2,6 +2,7 @@
 use Rattle.std.proofs.Common.{◌≡◌, ◌+◌, ◌==◌, ℕ, true, false, List, [], ◌∷◌, length, Option, Some, None, Result, Err, refl, sym, ap, ◌∙◌, subst, arith, eqb-true, eq-eqb}
 use Rattle.el_base.specs.declared.hash.Hash32.{Hash32}
 use Rattle.el_outside.specs.Counts.{RoseBy, CountsOnly}
+use Rattle.el_fees.specs.Tables.{IsTableOf}
 use Rattle.el_side.specs.Deeds.{Deed, archive, failures}
 use Rattle.el_outside.proofs.Traces.{all_grow_none}
 use Rattle.el_chain.specs.Chains.{Chain, tip}
@@ -136,15 +137,16 @@ module _ {G A : Type 0} (of : Ghosts G A) where
       }
 
   -- before the first line
-  pub starts : (l : G) (a : A) (chain : Chain) (h : Holdings) (k : Caches) → of.ledger.stands l chain → CachesStand k chain chain → h.pool.entries ≡ [] → h.pool.limits ≡ no_room
+  pub starts : (l : G) (a : A) (chain : Chain) (h : Holdings) (k : Caches) → of.ledger.stands l chain → CachesStand k chain chain → h.pool.entries ≡ [] → IsTableOf h.fees [] → h.pool.limits ≡ no_room
       → StandWith of (beneath l a) h k [] (quiet_side true chain h.magic no_room h.tree (of.files.bytes a))
-  starts l a chain h k stood kept empty limits = record {
+  starts l a chain h k stood kept empty no_fees limits = record {
     sure = refl;
     start = chain;
     at = record {
       stood = λ s. stood;
       set = record {
         stood = λ s. record { sifted = refl; are = empty; once = tt };
+        fees = λ s. rw empty no_fees;
         computed = λ s. kept;
         still = λ e. refl;
         limits = limits;

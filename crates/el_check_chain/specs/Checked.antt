@@ -21,7 +21,7 @@ use Rattle.el_check_chain.specs.declared.summary.Summary.{Summary}
 abbrev pub made_files : ℕ → ℕ → List ℕ
 made_files count = file_bytes (made_file count ∷ [])
 
--- nothing unconfirmed is kept
+-- limits under which nothing unconfirmed is kept
 abbrev pub no_room : PoolLimits
 no_room = record { count = 0; bytes = 0 }
 

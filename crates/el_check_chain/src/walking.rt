@@ -14,6 +14,7 @@ use crate::headers::scanned_tree;
 use crate::leading::lead;
 use el_base::{Bytes, Hash32, OutOfMemory, sha256};
 use el_fakes::SteadyArchive;
+use el_fees::FeeTable;
 use el_gen::{MOST_MADE, Made, locking_script, make};
 use el_mempool::PoolLimits;
 use el_model::{Ledger, QueryFault};
@@ -149,7 +150,13 @@ pub fn walk<W: Threads + Sync, G: Ledger>(
     let magic = Regtest::magic();
     let tree = scanned_tree(alloc, &mut archive, magic)?;
     let pool = Pool::new(alloc, NO_ROOM);
-    let mut holdings = Holdings { tree, magic, pool };
+    let fees = FeeTable::new();
+    let mut holdings = Holdings {
+        tree,
+        magic,
+        pool,
+        fees,
+    };
     let mut caches = Caches::new(alloc);
     let moves = lead_all(
         rt,

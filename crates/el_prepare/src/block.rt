@@ -234,8 +234,8 @@ fn prepare_short<W: Threads + Sync, P: Pace + Sync>(
 /// ends, and the first fault of form. Then the transactions are cut into chunks of an eighth of their number,
 /// rounded up: the pieces, numbered from 0, which run side by side where threads can be made. Each enters the
 /// pace as it begins, and hashes its own transactions and their locking scripts. Then comes what needs all
-/// txids; where these are many, the lower levels of their Merkle tree are hashed in pieces too. Bytes that are
-/// too many for any block are looked at by `prepare_one` alone.
+/// txids; where these are many, the lower levels of their Merkle tree are hashed in pieces too. Bytes that
+/// are too many for any block are looked at by `prepare_one` alone.
 ///
 /// # Errors
 ///

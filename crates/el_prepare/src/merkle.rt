@@ -91,8 +91,8 @@ fn row_in_pieces<W: Threads + Sync, P: Pace + Sync>(
 }
 
 /// The Merkle root of hashes (Bitcoin's block format), in inner order as the hashes are. Where they are many,
-/// the lower levels of the tree are hashed in at most eight pieces side by side, each of which enters the pace
-/// as it begins: their numbers follow those of the pieces in which transactions are prepared.
+/// the lower levels of the tree are hashed in at most eight pieces side by side, each of which enters the
+/// pace as it begins: their numbers follow those of the pieces in which transactions are prepared.
 pub fn root_in_pieces<W: Threads + Sync, P: Pace + Sync>(
     rt: &W,
     alloc: Global,

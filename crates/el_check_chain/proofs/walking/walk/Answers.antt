@@ -13,9 +13,9 @@ use Rattle.el_check_chain.proofs.walking.walk.Goals as goal
 pub returns-clause-walked : goal.returns-clause-walked
 returns-clause-walked g c = λ stood.
     let scan = c.in_ok-tree.ensures.scanned tt in
-    let held : Holdings = record { tree = c.in_ok-tree.tree; magic = c.magic-magic.result; pool = c.new-pool.result } in
+    let held : Holdings = record { tree = c.in_ok-tree.tree; magic = c.magic-magic.result; pool = c.new-pool.result; fees = c.new-fees.result } in
     let begun = starts (ghosts g.G.Ledger steady) c.args.ledger.now c.scanned_tree.new.archive [] held c.new-caches.result stood (c.new-caches.ensures [])
-    c.new-pool.ensures.entries c.new-pool.ensures.limits in
+    c.new-pool.ensures.entries c.new-fees.ensures c.new-pool.ensures.limits in
     has_walked g.G.Ledger c.args.count c.in_ok-archive.archive c.scanned_tree.new.archive c.lead_all.new.archive
     c.magic-magic.result c.in_ok-tree.tree scan.0
     (record { first = c.in_ok-file.field-0.first_tip; other = c.in_ok-file.field-0.side_tip })

@@ -1,0 +1,5 @@
+pub mod Claims
+pub mod Reports
+pub mod Collected
+pub mod Checkers
+pub mod within

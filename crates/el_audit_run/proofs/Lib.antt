@@ -1,0 +1,5 @@
+pub mod Putting
+pub mod Own
+pub mod Found
+pub mod Texts
+pub mod Reaching
