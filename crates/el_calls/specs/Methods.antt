@@ -1,6 +1,8 @@
 -- What each method takes (Electrum Protocol 1.4, "Protocol Methods"): the names of its parameters in their
 -- order, and the call by what is given for them.
-use Rattle.std.specs.Prelude.{◌≡◌, ℕ, false, if◌then◌else◌, List, [], ◌∷◌, Option, Some, None, ok_or, is_some, Bool, Result, Ok, Err, codes}
+use Rattle.std.specs.Prelude.{◌≡◌, ℕ, false, if◌then◌else◌, List, [], ◌∷◌, Option, Some, None, option_and_then, ok_or, is_some, Bool, Result, Ok, Err, codes}
+use Rattle.hex.specs.Hex.{decode_of}
+use Rattle.hex.specs.declared.FromHexError.{FromHexError}
 use Rattle.serde_json.specs.Data.{Data}
 use Rattle.serde_json.specs.Find.{as_bool, as_str, as_object}
 use Rattle.el_base.specs.declared.hash.Hash32.{Hash32}
@@ -14,7 +16,7 @@ use Rattle.el_calls.specs.declared.refusal.Refusal.{Refusal}
 use Rattle.el_calls.specs.declared.refusal.Refusal.TheVariants.{InvalidParams}
 use Rattle.el_calls.specs.declared.refusal.Refusal.TheVariants as refusal
 use Rattle.el_calls.specs.Names.{name_of}
-use Rattle.el_calls.specs.Versions.{versions_in, served, is_hex_text}
+use Rattle.el_calls.specs.Versions.{versions_in, served}
 
 -- what comes first, and then what comes of it, unless it was refused
 infixl 10 ◌>>=◌
@@ -43,6 +45,15 @@ is_text d = is_some (as_str d)
 -- the value is an object
 abbrev pub is_object : Data → Bool
 is_object d = is_some (as_object d)
+
+-- the bytes that were decoded, if they were
+abbrev pub bytes_or : Result (List ℕ) FromHexError → Option (List ℕ)
+bytes_or (Ok bytes) = Some bytes
+bytes_or (Err e) = None
+
+-- the bytes that a text of an even number of hex digits shows
+abbrev pub hex_in : Data → Option (List ℕ)
+hex_in d = option_and_then (λ text. bytes_or (decode_of text)) (as_str d)
 
 -- nothing else is given than these parameters
 abbrev pub only : List (List ℕ) → Params → Result (Unit {0}) Refusal
@@ -117,8 +128,8 @@ row_of method.ScriptHashSubscribe = of_script_hash call.ScriptHashSubscribe
 row_of method.Broadcast = record {
   names = codes "raw_tx" ∷ [];
   call = λ p. do
-    raw_tx ← needed (passing is_hex_text) (given p 0 (codes "raw_tx"))
-    Ok call.Broadcast;
+    raw_tx ← needed hex_in (given p 0 (codes "raw_tx"))
+    Ok (call.Broadcast raw_tx);
 }
 row_of method.TransactionGet = record {
   names = codes "tx_hash" ∷ codes "verbose" ∷ [];
@@ -167,3 +178,8 @@ abbrev pub plain_call : Call → Params → Result Call Refusal
 plain_call c p = do
   nothing ← only [] p
   Ok c
+
+-- the bytes that a call broadcasts, if it is a broadcast
+abbrev pub raw_tx_of : Call → Option (List ℕ)
+raw_tx_of (call.Broadcast bytes) = Some bytes
+raw_tx_of other = None

@@ -21,10 +21,14 @@ code_of refusal.NotInThatBlock = pos 1
 code_of refusal.NoSuchPosition = pos 1
 code_of refusal.VersionAgreed = pos 1
 code_of refusal.VersionNotShared = pos 1
+code_of refusal.NotTransaction = pos 1
+code_of refusal.CoinbaseNotRelayed = pos 1
+code_of refusal.RefusedByRelay = pos 1
 code_of refusal.NoRelay = pos 2
 code_of refusal.DiskFailed = pos 3
 code_of refusal.ArchiveFailed = pos 4
 code_of refusal.ArchiveChanged = pos 5
+code_of refusal.RelayFailed = pos 6
 
 -- what the error says, in words
 abbrev pub message_of : Refusal → List ℕ
@@ -44,7 +48,11 @@ message_of refusal.NotInThatBlock = codes "not in that block"
 message_of refusal.NoSuchPosition = codes "no such position"
 message_of refusal.VersionAgreed = codes "version already agreed"
 message_of refusal.VersionNotShared = codes "version not shared"
+message_of refusal.NotTransaction = codes "not a transaction"
+message_of refusal.CoinbaseNotRelayed = codes "coinbase not relayed"
+message_of refusal.RefusedByRelay = codes "refused by relay"
 message_of refusal.NoRelay = codes "no relay"
 message_of refusal.DiskFailed = codes "index device failed"
 message_of refusal.ArchiveFailed = codes "block files failed"
 message_of refusal.ArchiveChanged = codes "block files changed"
+message_of refusal.RelayFailed = codes "relay failed"

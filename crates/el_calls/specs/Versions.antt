@@ -2,12 +2,13 @@
 -- with dots between, each of one to four digits. Parts that are missing are 0.
 use Rattle.std.specs.Prelude.{ℕ, ◌+◌, ◌*◌, ◌-◌, ◌%◌, length, ◌==◌, nat_lt, nat_le, ◌&&◌, ◌||◌, Bool, false, if◌then◌else◌, List, [], ◌∷◌, Option, Some, None, option_and_then}
 use Rattle.std.specs.List.{list_all}
-use Rattle.std.specs.Char.{is_ascii_digit, is_ascii_hexdigit}
+use Rattle.std.specs.Char.{is_ascii_digit}
 use Rattle.serde_json.specs.Data.{Data}
 use Rattle.serde_json.specs.Find.{as_str}
 use Rattle.el_json.specs.Parameters.{pair_in}
 use Rattle.el_calls.specs.declared.call.VersionParts.{VersionParts}
 
+-- what comes of the value that is there, and None where none is; lines after `do` are read by it
 infixl 10 ◌>>=◌
 abbrev pub ◌>>=◌ : {A B : Type 0} → Option A → (A → Option B) → Option B
 (Some x) >>= f = f x
@@ -29,7 +30,7 @@ next_digit before b = do
   d ← digit_of b
   Some (n * 10 + d)
 
--- one to four digits
+-- the number that one part of a version is: one to four digits
 abbrev pub part_of : List ℕ → Option ℕ
 part_of [] = None
 part_of (a ∷ []) = digit_of a
@@ -92,16 +93,3 @@ served = record { major = 1; minor = 4; patch = 0 }
 -- the version that is served is among those that the client takes
 abbrev pub is_shared : VersionParts → VersionParts → Bool
 is_shared least most = is_up_to least served && is_up_to served most
-
--- an even number of hex digits
-abbrev pub are_hex_bytes : List ℕ → Bool
-are_hex_bytes text = (length text % 2 == 0) && list_all is_ascii_hexdigit text
-
--- there is a text, and it is an even number of hex digits
-abbrev pub are_hex_bytes_in : Option (List ℕ) → Bool
-are_hex_bytes_in None = false
-are_hex_bytes_in (Some text) = are_hex_bytes text
-
--- a text of them
-abbrev pub is_hex_text : Data → Bool
-is_hex_text d = are_hex_bytes_in (as_str d)

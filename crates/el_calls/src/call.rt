@@ -1,5 +1,8 @@
 // Calls: methods with what is given for their parameters.
-use el_base::Hash32;
+ghost use Rattle.std.specs.Prelude.{◌≡◌, option_map};
+ghost use Rattle.el_calls.specs.Methods.{raw_tx_of};
+
+use el_base::{Bytes, Hash32};
 
 /// The parts of a version that a client names, each below 10,000.
 #[derive(Clone, Copy, Debug, PartialEq, Eq)]
@@ -17,7 +20,7 @@ pub(crate) const SERVED: VersionParts = VersionParts {
 };
 
 /// A method with what is given for its parameters, or their defaults.
-#[derive(Clone, Copy, Debug, PartialEq, Eq)]
+#[derive(Debug, PartialEq, Eq, Drop)]
 pub enum Call {
     ServerVersion {
         least: VersionParts,
@@ -46,7 +49,8 @@ pub enum Call {
     GetMempool(Hash32),
     ListUnspent(Hash32),
     ScriptHashSubscribe(Hash32),
-    Broadcast,
+    /// The bytes of a transaction.
+    Broadcast(Bytes),
     TransactionGet {
         tx_hash: Hash32,
         verbose: bool,
@@ -61,4 +65,16 @@ pub enum Call {
         merkle: bool,
     },
     FeeHistogram,
+}
+
+impl Call {
+    /// The bytes that it broadcasts, if it is a broadcast.
+    pub fn raw_tx(&self) -> Option<&[u8]>
+        ensures { option_map (λ bytes. bytes.now) result ≡ raw_tx_of self.now }
+    {
+        match self {
+            Call::Broadcast(bytes) => Some(bytes.as_slice()),
+            _ => None,
+        }
+    }
 }

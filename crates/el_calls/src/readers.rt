@@ -1,16 +1,18 @@
 // Parameters read as calls.
-ghost use Rattle.std.specs.Prelude.{◌≡◌, if◌then◌else◌, Ok, Err, false, [], codes};
+ghost use Rattle.std.specs.Prelude.{◌≡◌, ◌≢◌, if◌then◌else◌, Ok, Err, IfOk, false, [], codes};
 ghost use Rattle.serde_json.specs.Find.{as_bool};
 ghost use Rattle.el_json.specs.Parameters.{given, has_only, number_in, hash_in, texts_of};
-ghost use Rattle.el_calls.specs.Methods.{needed, otherwise, only, passing, is_text, is_object, called, script_hash_in, plain_call, IsCalled};
-ghost use Rattle.el_calls.specs.Versions.{versions_in, served, is_hex_text};
+ghost use Rattle.el_calls.specs.Methods.{needed, otherwise, only, passing, hex_in, is_text, is_object, called, script_hash_in, plain_call, IsCalled};
+ghost use Rattle.el_calls.specs.Versions.{versions_in, served};
 
 use crate::call::{Call, SERVED, VersionParts};
 use crate::method::Method;
 use crate::refusal::Refusal;
-use crate::versions::{is_hex_text, versions_in};
-use el_base::Hash32;
+use crate::versions::versions_in;
+use el_base::{Bytes, Hash32, OutOfMemory};
 use el_json::Params;
+use hex::FromHexError;
+use std::alloc::Global;
 
 // That nothing but these parameters is given.
 fn only(params: &Params, names: &[&str]) -> Result<(), Refusal>
@@ -190,26 +192,33 @@ fn add_peer(params: &Params) -> Result<Call, Refusal>
     Ok(Call::ServerAddPeer)
 }
 
-// That hex digits are given for the bytes of a transaction.
-fn raw_tx(params: &Params) -> Result<(), Refusal>
-    ensures { result ≡ needed (passing is_hex_text) (given params.now 0 (codes "raw_tx")) }
+// The bytes of a transaction, for which hex digits must be given.
+fn raw_tx(alloc: Global, params: &Params) -> Result<Result<Bytes, Refusal>, OutOfMemory>
+    ensures { IfOk result (λ bytes. bytes ≡ needed hex_in (given params.now 0 (codes "raw_tx"))) }
 {
-    match params.given(0, "raw_tx") {
-        Some(param) => if is_hex_text(&param) {
-            Ok(())
-        } else {
-            Err(Refusal::InvalidParams)
-        },
-        None => Err(Refusal::InvalidParams),
+    let Some(param) = params.given(0, "raw_tx") else {
+        return Ok(Err(Refusal::InvalidParams));
+    };
+    let Some(text) = param.text() else {
+        return Ok(Err(Refusal::InvalidParams));
+    };
+    match hex::decode(alloc, text) {
+        Ok(bytes) => Ok(Ok(Bytes::from_vec(bytes))),
+        Err(FromHexError::OutOfMemory) => Err(OutOfMemory),
+        Err(_) => Ok(Err(Refusal::InvalidParams)),
     }
 }
 
-fn broadcast(params: &Params) -> Result<Call, Refusal>
-    ensures { result ≡ called Method.Broadcast params.now }
+fn broadcast(alloc: Global, params: &Params) -> Result<Result<Call, Refusal>, OutOfMemory>
+    ensures { IfOk result (λ call. call ≡ called Method.Broadcast params.now) }
 {
-    only(params, &["raw_tx"])?;
-    raw_tx(params)?;
-    Ok(Call::Broadcast)
+    if let Err(refusal) = only(params, &["raw_tx"]) {
+        return Ok(Err(refusal));
+    }
+    match raw_tx(alloc, params)? {
+        Ok(bytes) => Ok(Ok(Call::Broadcast(bytes))),
+        Err(refusal) => Ok(Err(refusal)),
+    }
 }
 
 // That the client's name is a text, where it is given.
@@ -253,7 +262,9 @@ fn plain(params: &Params, call: Call) -> Result<Call, Refusal>
     Ok(call)
 }
 
+// The call of a method whose parameters are read without memory.
 fn known_call(method: Method, params: &Params) -> Result<Call, Refusal>
+    requires { method ≢ Method.Broadcast }
     ensures { result ≡ called method params.now }
 {
     match method {
@@ -274,7 +285,7 @@ fn known_call(method: Method, params: &Params) -> Result<Call, Refusal>
         Method::GetMempool => get_mempool(params),
         Method::ListUnspent => list_unspent(params),
         Method::ScriptHashSubscribe => subscribe(params),
-        Method::Broadcast => broadcast(params),
+        Method::Broadcast => unreachable!(),
         Method::TransactionGet => transaction_get(params),
         Method::GetMerkle => get_merkle(params),
         Method::IdFromPos => id_from_pos(params),
@@ -282,12 +293,18 @@ fn known_call(method: Method, params: &Params) -> Result<Call, Refusal>
     }
 }
 
-/// The call that a request asks for, or why it asks for none.
-pub fn call_of(method: &str, params: &Params) -> Result<Call, Refusal>
-    ensures { IsCalled method.now params.now result }
+/// The call that a request asks for, or why it asks for none. Memory is taken for the bytes of a transaction
+/// alone.
+pub fn call_of(
+    alloc: Global,
+    method: &str,
+    params: &Params,
+) -> Result<Result<Call, Refusal>, OutOfMemory>
+    ensures { IfOk result (IsCalled method.now params.now) }
 {
     match Method::named(method) {
-        Some(method) => known_call(method, params),
-        None => Err(Refusal::UnknownMethod),
+        Some(Method::Broadcast) => broadcast(alloc, params),
+        Some(method) => Ok(known_call(method, params)),
+        None => Ok(Err(Refusal::UnknownMethod)),
     }
 }

@@ -37,6 +37,12 @@ pub enum Refusal {
     VersionAgreed,
     /// The client doesn't share a version.
     VersionNotShared,
+    /// The bytes are not one whole transaction.
+    NotTransaction,
+    /// A transaction with an input like a coinbase's is not relayed.
+    CoinbaseNotRelayed,
+    /// The relay refused the transaction.
+    RefusedByRelay,
     /// Transactions are not relayed.
     NoRelay,
     /// A call of the index's device failed.
@@ -45,6 +51,8 @@ pub enum Refusal {
     ArchiveFailed,
     /// The block files have changed where the transaction stood.
     ArchiveChanged,
+    /// A call of the relay failed.
+    RelayFailed,
 }
 
 impl Refusal {
@@ -61,6 +69,7 @@ impl Refusal {
             Refusal::DiskFailed => 3,
             Refusal::ArchiveFailed => 4,
             Refusal::ArchiveChanged => 5,
+            Refusal::RelayFailed => 6,
             _ => 1,
         }
     }
@@ -86,10 +95,14 @@ impl Refusal {
             Refusal::NoSuchPosition => "no such position",
             Refusal::VersionAgreed => "version already agreed",
             Refusal::VersionNotShared => "version not shared",
+            Refusal::NotTransaction => "not a transaction",
+            Refusal::CoinbaseNotRelayed => "coinbase not relayed",
+            Refusal::RefusedByRelay => "refused by relay",
             Refusal::NoRelay => "no relay",
             Refusal::DiskFailed => "index device failed",
             Refusal::ArchiveFailed => "block files failed",
             Refusal::ArchiveChanged => "block files changed",
+            Refusal::RelayFailed => "relay failed",
         }
     }
 }

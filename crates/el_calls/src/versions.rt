@@ -1,7 +1,6 @@
-// Versions of the protocol, and hex digits, as clients write them.
+// Versions of the protocol, as clients write them.
 ghost use Rattle.std.specs.Prelude.{◌≡◌, ◌<◌, ◌+◌, ◌*◌, ℕ, length, take, drop, Some, None, IfSome, IfNone};
 ghost use Rattle.std.specs.List.{list_all};
-ghost use Rattle.std.specs.Char.{is_ascii_hexdigit};
 ghost use Rattle.el_calls.specs.Versions as defined;
 ghost use Rattle.el_calls.specs.Versions.{cut_at_dot};
 
@@ -157,33 +156,4 @@ pub fn is_shared(least: VersionParts, most: VersionParts) -> bool
     ensures { result ≡ defined.is_shared least most }
 {
     is_up_to(least, SERVED) && is_up_to(SERVED, most)
-}
-
-// Whether all are hex digits.
-fn are_hex_digits(text: &[u8]) -> bool
-    ensures { result ≡ list_all is_ascii_hexdigit text.now }
-{
-    for b in text {
-        if !b.is_ascii_hexdigit() {
-            return false;
-        }
-    }
-    true
-}
-
-// Whether they are an even number of hex digits.
-fn are_hex_bytes(text: &[u8]) -> bool
-    ensures { result ≡ defined.are_hex_bytes text.now }
-{
-    text.len() % 2 == 0 && are_hex_digits(text)
-}
-
-/// Whether it is a text of an even number of hex digits.
-pub fn is_hex_text(param: &Param) -> bool
-    ensures { result ≡ defined.is_hex_text param.now }
-{
-    match param.text() {
-        Some(text) => are_hex_bytes(text.as_bytes()),
-        None => false,
-    }
 }

@@ -62,5 +62,6 @@ pub trait Folder {
             → IfOk result (λ n. IsFront at n buf.new (bytes self.new f)) }
         ensures end { tells → (f : ℕ) → is_file file.now f
             → IfOk result (λ n. n ≡ 0 → (length buf.old ≡ 0) ⊎ (length (bytes self.new f) ≤ at)) }
+
         ensures grows { tells → AllGrow (bytes self.old) (bytes self.new) };
 }

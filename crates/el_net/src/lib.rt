@@ -24,6 +24,6 @@ pub use block_folder::BlockFolder;
 pub use folder::Folder;
 pub use index_folder::{IndexFolder, index_files};
 pub use masks::{Mask, NO_MASK, mask_of, unmask};
-pub use nobody::{NoDisk, NoFiles, NoLink};
+pub use nobody::{NoDisk, NoFiles, NoLink, NoRelay};
 pub use standard_link::StandardLink;
 pub use tcp_link::TcpLink;

@@ -3,7 +3,8 @@ ghost use Rattle.std.specs.Prelude.{◌≡◌, [], refl};
 
 use el_base::GhostCount;
 use el_outside::{
-    Archive, ArchiveFailed, Arrival, Disk, DiskFailed, Link, LinkFailed, Peer, SendFault, Why,
+    Archive, ArchiveFailed, Arrival, Disk, DiskFailed, Link, LinkFailed, Peer, Relay, RelayFailed,
+    SendFault, Verdict, Why,
 };
 
 /// Block files of which there are none.
@@ -149,5 +150,41 @@ impl Disk for NoDisk {
     fn sync(&mut self, _file: u32) -> Result<(), DiskFailed> {
         self.made.tick();
         Ok(())
+    }
+}
+
+/// A relay that passes nothing on: each of its calls fails.
+#[derive(Drop)]
+pub struct NoRelay {
+    /// How often a call failed, up to 2^64 - 1.
+    pub faults: u64,
+    made: GhostCount,
+}
+
+impl NoRelay {
+    /// No call was made yet.
+    pub fn new() -> NoRelay
+        ensures { result.faults ≡ 0 }
+    {
+        NoRelay {
+            faults: 0,
+            made: GhostCount::new(),
+        }
+    }
+}
+
+impl Relay for NoRelay {
+    ghost tells = { ⊥ };
+
+    ghost offers = { λ relay. [] };
+
+    ghost calls = { λ relay. relay.made };
+
+    ghost faults = { λ relay. relay.faults };
+
+    fn offer(&mut self, _bytes: &[u8]) -> Result<Verdict, RelayFailed> {
+        self.made.tick();
+        self.faults = self.faults.saturating_add(1);
+        Err(RelayFailed)
     }
 }

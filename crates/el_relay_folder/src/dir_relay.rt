@@ -17,7 +17,8 @@ use std::io::ErrorKind;
 use std::marker::Model;
 
 /// A folder as a relay. It takes each transaction that it can keep there, as one that waits for what sends it
-/// to the node, and refuses none: a folder that isn't there, is full or can't be written is a failure.
+/// to the node, and refuses none: a folder that isn't there, has 10,000 that wait, is full or can't be
+/// written is a failure.
 #[derive(Drop)]
 pub struct DirRelay<F: Outbox> {
     outbox: F,

@@ -10,3 +10,4 @@ mod writing;
 pub use dir_relay::DirRelay;
 pub use outbox::Outbox;
 pub use relay_folder::{RelayFolder, TxDraft};
+pub use writing::MOST_WAITING;

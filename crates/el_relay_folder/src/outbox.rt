@@ -31,6 +31,10 @@ pub trait Outbox {
         ensures there { tells → IfOk result (λ there. there ≡ true → HasFile (files self.new).put id.now) }
         ensures none { tells → PutsNone (files self.old) (files self.new) };
 
+    /// How many files of transactions stand under their names.
+    fn waiting(&mut self) -> io::Result<u64>
+        ensures none { tells → PutsNone (files self.old) (files self.new) };
+
     /// Makes a file for the transaction with this txid, with no text yet, under a name that isn't its own.
     /// One that stands there is cut.
     fn create(&mut self, id: &Hash32) -> io::Result<Self::Draft>
@@ -43,6 +47,7 @@ pub trait Outbox {
         ensures within { IfOk result (λ n. n ≤ length text.now) }
         ensures written { tells → IfOk result (λ n.
             draft file.new ≡ longer (draft file.old) (take n text.now)) }
+
         ensures interrupted { tells → IfErr result (λ e.
             error_kind e ≡ ErrorKind.Interrupted → draft file.new ≡ draft file.old) }
         ensures none { tells → PutsNone (files self.old) (files self.new) };

@@ -5,10 +5,10 @@ ghost use Rattle.el_relay_folder.specs.Paths.{tx_path, part_path, in_folder};
 
 use crate::outbox::Outbox;
 use el_base::{Hash32, OutOfMemory};
-use std::alloc::Global;
-use std::fs::{File, OpenOptions, exists, remove_file, rename};
+use std::alloc::{AllocGlobal, Global};
+use std::fs::{DirEntry, File, OpenOptions, exists, read_dir, remove_file, rename};
 use std::io;
-use std::io::Write;
+use std::io::{ErrorKind, Write};
 use std::marker::Model;
 use std::rt::Files;
 
@@ -73,6 +73,15 @@ fn draft_path(alloc: Global, folder: &str, id: &Hash32) -> io::Result<String>
     path_in(alloc, folder, id, ".tx.part")
 }
 
+// Whether an entry of the folder is a transaction's file under its name.
+fn is_waiting<R: Files + Drop>(entry: io::Result<DirEntry<R>>) -> io::Result<bool> {
+    match entry {
+        Ok(entry) => Ok(entry.file_name().ends_with(".tx")),
+        Err(e) if e.kind() == ErrorKind::InvalidFilename => Ok(false),
+        Err(e) => Err(e),
+    }
+}
+
 // Options of a file that is written, made if it isn't there, and cut.
 fn making() -> OpenOptions {
     let mut options = OpenOptions::new();
@@ -112,7 +121,7 @@ impl<R: Files<File = File> + Drop> RelayFolder<R> {
     }
 }
 
-impl<R: Files<File = File> + Drop> Outbox for RelayFolder<R> {
+impl<R: Files<File = File> + AllocGlobal + Clone + Drop> Outbox for RelayFolder<R> {
     ghost use Rattle.std.specs.Prelude.{[]};
     ghost use Rattle.el_relay_folder.specs.Outboxes.{empty_draft};
 
@@ -127,6 +136,16 @@ impl<R: Files<File = File> + Drop> Outbox for RelayFolder<R> {
     fn has(&mut self, id: &Hash32) -> io::Result<bool> {
         let path = own_path(self.alloc, self.folder.as_str(), id)?;
         exists(&self.rt, path.as_str())
+    }
+
+    fn waiting(&mut self) -> io::Result<u64> {
+        let mut count = 0u64;
+        for entry in read_dir(&self.rt, self.folder.as_str())? {
+            if is_waiting(entry)? {
+                count = count.saturating_add(1);
+            }
+        }
+        Ok(count)
     }
 
     fn create(&mut self, id: &Hash32) -> io::Result<TxDraft> {

@@ -7,6 +7,9 @@ use el_base::Hash32;
 use std::io;
 use std::io::ErrorKind;
 
+/// How many files may stand under their names before another one is put.
+pub const MOST_WAITING: u64 = 10_000;
+
 // Adds all of the text after what the file has. A call that was interrupted is made again.
 fn write_all<F: Outbox>(outbox: &mut F, file: &mut F::Draft, text: &[u8]) -> io::Result<()>
     ensures written { F.tells → OnOk result (F.draft file.new ≡ longer (F.draft file.old) text.now) }
@@ -51,6 +54,27 @@ fn write_draft<F: Outbox>(outbox: &mut F, id: &Hash32, text: &[u8]) -> io::Resul
     }
 }
 
+// Fails where as many files stand under their names as may.
+fn expect_room<F: Outbox>(outbox: &mut F) -> io::Result<()>
+    ensures { F.tells → PutsNone (F.files outbox.old) (F.files outbox.new) }
+{
+    if outbox.waiting()? < MOST_WAITING {
+        Ok(())
+    } else {
+        Err(io::Error::from(ErrorKind::StorageFull))
+    }
+}
+
+// Writes a file for one more transaction, with that text, all of which is on the disk then.
+fn write_more<F: Outbox>(outbox: &mut F, id: &Hash32, text: &[u8]) -> io::Result<F::Draft>
+    ensures written { F.tells → IfOk result (λ file.
+        F.draft file ≡ durable (longer (empty_draft id.now) text.now)) }
+    ensures none { F.tells → PutsNone (F.files outbox.old) (F.files outbox.new) }
+{
+    expect_room(outbox)?;
+    write_draft(outbox, id, text)
+}
+
 // Puts a file of the transaction with that text under its name, unless one stands there.
 fn put_file<F: Outbox>(outbox: &mut F, id: &Hash32, text: &[u8]) -> io::Result<()>
     ensures put { F.tells → OnOk result (HasFile (F.files outbox.new).put id.now) }
@@ -60,7 +84,7 @@ fn put_file<F: Outbox>(outbox: &mut F, id: &Hash32, text: &[u8]) -> io::Result<(
     if outbox.has(id)? {
         return Ok(());
     }
-    let file = write_draft(outbox, id, text)?;
+    let file = write_more(outbox, id, text)?;
     outbox.put(file)
 }
 

@@ -30,6 +30,7 @@ pub settled_on : {G A : Type 0} (of : Ghosts G A) (was now : Beneath G A) (holdi
 settled_on of was now holdings caches caches_now side asked grows stays s = record {
   stood = λ sure. asked.stays.still_stands side.chain (s.stood sure);
   set = s.set;
+  fees = s.fees;
   computed = λ sure. stays side.chain (s.stood sure) (s.computed sure);
   found = s.found;
   told = λ t. all_grow_more side.files (of.files.bytes was.files) (of.files.bytes now.files) (s.told t) (grows t);

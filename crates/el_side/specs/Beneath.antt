@@ -9,7 +9,7 @@ pub record Ghosts (G A : Type 0) : Type 1 where
   pub ledger : ledger.Ghosts G
   pub files : archive.Ghosts A
 
--- these two, as one
+-- what the types of the ledger and of the block files tell, as one
 abbrev pub ghosts : {G A : Type 0} → ledger.Ghosts G → archive.Ghosts A → Ghosts G A
 ghosts of_ledger of_files = record { ledger = of_ledger; files = of_files }
 

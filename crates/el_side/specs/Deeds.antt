@@ -15,7 +15,7 @@ pub data Device : Type 0 where
   disk : Device
   relay : Device
 
--- the two are one
+-- whether the two are one device
 abbrev pub same_device : Device → Device → Bool
 same_device link link = true
 same_device archive archive = true
@@ -38,7 +38,7 @@ is_lost device (offered bytes verdict) = false
 abbrev pub failures : Device → List Deed → ℕ
 failures device deeds = length (filter (is_lost device) deeds)
 
--- no call failed
+-- the deed is an offer to the relay that it answered, and no failed call
 abbrev pub IsOffer : Deed → Type 0
 IsOffer (lost device) = ⊥
 IsOffer (offered bytes verdict) = ⊤
@@ -68,7 +68,7 @@ offers [] = []
 offers (lost device ∷ deeds) = offers deeds
 offers (offered bytes verdict ∷ deeds) = record { bytes = bytes; answer = Ok verdict } ∷ offers deeds
 
--- the call didn't fail
+-- the relay answered the offer
 abbrev pub is_answered : Result Verdict RelayFailed → Bool
 is_answered (Ok verdict) = true
 is_answered (Err failed) = false

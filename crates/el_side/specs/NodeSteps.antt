@@ -6,6 +6,7 @@ use Rattle.el_outside.specs.Files.{AllGrow}
 use Rattle.el_chain.specs.declared.node.Node.{Node}
 use Rattle.el_chain.specs.Chains.{Chain}
 use Rattle.el_mempool.specs.Standing.{StandsFor}
+use Rattle.el_fees.specs.Tables.{IsTableOf}
 use Rattle.el_model.specs.LedgerCalls.{Moved}
 use Rattle.el_lines.specs.declared.node_answer.NodeAnswer.{NodeAnswer}
 use Rattle.el_status.specs.Statuses.{status}
@@ -18,9 +19,10 @@ use Rattle.el_side.specs.Side.{Side, IsSure}
 
 -- The set stands for the transactions that are kept, over the chain that was there when the node's last tip
 -- line began, its start: that is the side's chain where the line left nothing to do. Of a side that is unsure
--- the set may hold anything. So with what was computed once.
+-- the set may hold anything. So with the table of its fees, and with what was computed once.
 pub record SetStands (holdings : Holdings) (caches : Caches) (side : Side) (start : Chain) : Type 0 where
   pub stood : IsSure side → StandsFor holdings.pool.entries start side.kept
+  pub fees : IsSure side → IsTableOf holdings.fees holdings.pool.entries
   pub computed : IsSure side → CachesStand caches start side.chain
   pub still : side.ahead ≡ [] → start ≡ side.chain
   pub limits : holdings.pool.limits ≡ side.limits
@@ -34,12 +36,13 @@ pub record IsAt {G A : Type 0} (of : Ghosts G A) (now : Beneath G A) (holdings :
   pub told : of.files.tells → AllGrow side.files (of.files.bytes now.files)
 
 -- A client is answered from these: where the side is sure, the ledger stands for its chain, the set for what
--- is kept over it, and what was computed once is of it; the found headers are the side's, and the block files
--- have all that the side knows of them.
+-- is kept over it, the table of fees is that of the set, and what was computed once is of the chain; the
+-- found headers are the side's, and the block files have all that the side knows of them.
 pub record IsSettled {G A : Type 0} (of : Ghosts G A) (now : Beneath G A) (holdings : Holdings)
     (caches : Caches) (side : Side) : Type 0 where
   pub stood : IsSure side → of.ledger.stands now.ledger side.chain
   pub set : IsSure side → StandsFor holdings.pool.entries side.chain side.kept
+  pub fees : IsSure side → IsTableOf holdings.fees holdings.pool.entries
   pub computed : IsSure side → CachesStand caches side.chain side.chain
   pub found : holdings.tree ≡ side.found
   pub told : of.files.tells → AllGrow side.files (of.files.bytes now.files)

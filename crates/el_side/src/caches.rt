@@ -78,9 +78,9 @@ impl Caches {
     }
 
     /// The proof of the header of that height up to a checkpoint (Electrum Protocol 1.4, `cp_height`): the
-    /// partners of its block's hash, from the leaf upwards, and the root, both over the block hashes of heights
-    /// 0 to `upto`, in inner order. Where what is kept is too little for that, as it may be over a ledger that
-    /// stands for no chain, it is made first.
+    /// partners of its block's hash, from the leaf upwards, and the root, both over the block hashes of
+    /// heights 0 to `upto`, in inner order. Where what is kept is too little for that, as it may be over a
+    /// ledger that stands for no chain, it is made first.
     ///
     /// # Errors
     ///

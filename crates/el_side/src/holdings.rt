@@ -1,4 +1,5 @@
 // What the server holds beside the ledger.
+use el_fees::FeeTable;
 use el_headers::HeaderTree;
 use el_pool::Pool;
 
@@ -11,4 +12,6 @@ pub struct Holdings {
     pub magic: [u8; 4],
     /// The unconfirmed transactions that are kept.
     pub pool: Pool,
+    /// The sums of their sizes by fee rate, which follow each change of the set.
+    pub fees: FeeTable,
 }
