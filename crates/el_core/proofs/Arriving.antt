@@ -14,7 +14,9 @@ use Rattle.el_world.specs.Run as run
 use Rattle.el_world.specs.Run.{Turns}
 use Rattle.el_lines.proofs.Cuts.{either, pieces}
 use Rattle.el_lines.specs.LineStates.{IsAt}
+use Rattle.el_fees.specs.Tables.{IsTableOf}
 use Rattle.el_side.specs.Caching.{CachesStand}
+use Rattle.el_relay.specs.Desk.{empty_desk}
 use Rattle.el_core.specs.State.{State, ClientState, IsIdle, IsMet, HearsLeft, in_order, losing, IsSession, Rising, SessionsAre, Tellings, NoneWaits, NodeLeaves, Stands, is_numbered}
 use Rattle.el_core.specs.Arrivals.{TookArrival, IsAfterArrival, Quietly, none, joined, departed, gone_from}
 use Rattle.el_core.specs.within.Clients.{IsFresh, Opens, node, joins as adds, one_more, Hears, nobody, client, Keeps, IsFed, IsPlace, replaced}
@@ -106,6 +108,7 @@ module _ {G : Type 0} (stands : G → Chain → Type 0) where
     speaker_last = λ p e. (refl, spoken p e);
     surplus_last = λ p e. (refl, last p e);
     before = stood.before;
+    desk = stood.desk;
     tellings = tellings;
     left_is = refl;
   }
@@ -339,6 +342,7 @@ module _ {G : Type 0} (stands : G → Chain → Type 0) where
           speaker_last = λ q e. absurd (no_some q (sym e ∙ ap (λ (u : State G). u.speaker) same ∙ idle.speaker));
           surplus_last = λ q e. absurd (no_some q (sym e ∙ ap (λ (u : State G). u.surplus) same ∙ idle.surplus));
           before = λ sure. ap (λ (u : State G). u.before) same ∙ stood.before sure;
+          desk = ap (λ (u : State G). u.desk) same ∙ stood.desk;
           tellings = rw (ap (λ (u : State G). u.touched) same) stood.tellings;
           left_is = sym (append-nil (map orders (added_lines node_limit world.heard bytes)));
         };
@@ -346,15 +350,16 @@ module _ {G : Type 0} (stands : G → Chain → Type 0) where
       })
 
   -- before any arrival
-  pub new_stands : (s : State G) (sure : Bool) (chain : Chain) (magic : List ℕ) (found : List Node) (files : ℕ → List ℕ) → (sure ≡ true → stands s.ledger chain) → (sure ≡ true → CachesStand s.caches chain chain) → s.holdings.magic ≡ magic → s.holdings.tree ≡ found → s.ahead ≡ []
-      → s.holdings.pool.entries ≡ [] → s.clients ≡ [] → s.speaker ≡ None → s.surplus ≡ None → s.before ≡ None → s.node.limit ≡ node_limit → IsAt s.node [] 0 → Stands stands s (model.initial_world sure chain magic s.holdings.pool.limits found files) []
-  new_stands s sure chain magic found files stood kept m f a none_kept c sp u b limit at' = record {
+  pub new_stands : (s : State G) (sure relays : Bool) (chain : Chain) (magic : List ℕ) (found : List Node) (files : ℕ → List ℕ) → (sure ≡ true → stands s.ledger chain) → (sure ≡ true → CachesStand s.caches chain chain) → s.holdings.magic ≡ magic → s.holdings.tree ≡ found → s.ahead ≡ []
+      → s.holdings.pool.entries ≡ [] → IsTableOf s.holdings.fees [] → s.clients ≡ [] → s.speaker ≡ None → s.surplus ≡ None → s.before ≡ None → s.desk ≡ empty_desk relays → s.node.limit ≡ node_limit → IsAt s.node [] 0
+      → Stands stands s (model.initial_world sure chain magic s.holdings.pool.limits found files relays) []
+  new_stands s sure relays chain magic found files stood kept m f a none_kept no_fees c sp u b d limit at' = record {
     chain = stood;
     magic = m;
     found = f;
     ahead = a;
     start = chain;
-    set = record { stood = λ e. rw none_kept (record { sifted = refl; are = refl; once = tt }); computed = kept; still = λ e. refl; limits = refl };
+    set = record { stood = λ e. rw none_kept (record { sifted = refl; are = refl; once = tt }); fees = λ e. rw none_kept no_fees; computed = kept; still = λ e. refl; limits = refl };
     ordered = [];
     node = record { limit = limit; given = 0; at = at'; few = omega arith; left_is = refl };
     said = [];
@@ -362,6 +367,7 @@ module _ {G : Type 0} (stands : G → Chain → Type 0) where
     speaker_last = λ q e. absurd (no_some q (sym e ∙ sp));
     surplus_last = λ q e. absurd (no_some q (sym e ∙ u));
     before = λ e. b;
+    desk = d;
     tellings = record { untouched = λ e. tt; told = λ e still. tt; busy = λ some. tt };
     left_is = refl;
   }

@@ -20,7 +20,7 @@ use Rattle.el_lines.specs.LineStates.{LineState}
 use Rattle.el_lines.specs.declared.line_buffer.LineEvent.TheVariants as event
 use Rattle.el_core.specs.State.{State, ClientState, HearsLeft, in_order, losing, IsSession, SessionsAre, NodeLeaves, Stands}
 use Rattle.el_core.specs.Turn.{HasLost, MeetsLine, WaitsToBeTold, outs_of, closing_of}
-use Rattle.el_core.specs.within.Clients.{replied, starved, uncounted, Gives, NextIsLine, ClientTurn, nobody, gone, steps, loses, departs, answers, waits, PeersTurn, closes, has_turn, TellTurn, TellsAt, IsToTell, IsFirstWaiting}
+use Rattle.el_core.specs.within.Clients.{Passing, replied, starved, uncounted, Gives, NextIsLine, ClientTurn, nobody, gone, steps, loses, departs, answers, waits, PeersTurn, closes, has_turn, TellTurn, TellsAt, IsToTell, IsFirstWaiting}
 use Rattle.el_core.specs.within.Clients as telling
 use Rattle.el_core.specs.declared.out.Outs as code
 use Rattle.el_core.proofs.Places.{there_at, all_at, zip_at}
@@ -175,7 +175,7 @@ waits_by clients (Some q) None ss p rest are = let s = spoken q (joins p ∷ res
 waits_by clients (Some q) (Some r) ss p rest are = absurd are.leaves_left
 
 -- while a client too many waits, no line is left
-no_line : (clients : List ClientState) (speaker : Option ℕ) (ss : List Session) (rest : List Event) (p q : ℕ) (e : LineEvent) → SessionsAre clients speaker (Some q) ss (says p e ∷ rest) → ⊥
+pub no_line : (clients : List ClientState) (speaker : Option ℕ) (ss : List Session) (rest : List Event) (p q : ℕ) (e : LineEvent) → SessionsAre clients speaker (Some q) ss (says p e ∷ rest) → ⊥
 no_line clients None ss rest p q e are = let f = are.leaves_left.0 in cc
 no_line clients (Some r) ss rest p q e are = are.leaves_left
 
@@ -190,7 +190,7 @@ module _ {G : Type 0} (stands : G → Chain → Type 0) where
       → (stood.ordered ≡ []) × (stood.said ≡ says p e ∷ rest)
   none_ordered_before s world p e rest stood = said_next s.node world.heard stood.ordered stood.said (says p e) rest stood.node stood.left_is (orders_no_line p e)
 
-  memory_of : (tells : Type 0) (side : Side) (rose : List Deed → Type 0) (s : State G) (world : World) (c : ClientState) (o : code.Outs) (next : Option ClientState) (left : List Event) (p q i : ℕ) → Speaking s world left q i c
+  memory_of : (tells : Type 0) (side : Side) (rose : Passing) (s : State G) (world : World) (c : ClientState) (o : code.Outs) (next : Option ClientState) (left : List Event) (p q i : ℕ) → Speaking s world left q i c
       → slice_get s.clients i ≡ Some c → ClientTurn tells side rose c (Some o) next → CloseIs (outs_of o).closing p → HasLost p s.clients ⊎ MeetsLine p left
   memory_of tells side rose s world c o next left p q i w at (loses o' lost some is gone_is still) told = inl (c, contains_at s.clients i c at, same_peer c.peer p (closing_is o o' _ p some is told), lost)
   memory_of tells side rose s world c o next left p q i w at (departs o' kept next_line some is gone_is still) told =
@@ -205,7 +205,7 @@ module _ {G : Type 0} (stands : G → Chain → Type 0) where
       absurd (long_other c.peer p (closing_is o o' _ p some a.0 told))
   memory_of tells side rose s world c o next left p q i w at (waits idle none_is same still) told = absurd (no_outs o none_is)
 
-  pub peers_memory : (old new : State G) (world : World) (left : List Event) (tells : Type 0) (side : Side) (rose : List Deed → Type 0) (o : code.Outs) (p : ℕ) (stood : Stands stands old world left) → stood.ordered ≡ []
+  pub peers_memory : (old new : State G) (world : World) (left : List Event) (tells : Type 0) (side : Side) (rose : Passing) (o : code.Outs) (p : ℕ) (stood : Stands stands old world left) → stood.ordered ≡ []
       → PeersTurn tells side rose old (Some o) new → CloseIs (outs_of o).closing p → HasLost p old.clients ⊎ MeetsLine p left
   peers_memory old new world left tells side rose o p stood none (closes q o' is some outs_is next still) told = absurd (surplus_other q p (closing_is o o' _ p some outs_is told))
   peers_memory old new world left tells side rose o p stood none (has_turn unused (nobody no_speaker none_is next still)) told = absurd (no_outs o none_is)
@@ -214,7 +214,7 @@ module _ {G : Type 0} (stands : G → Chain → Type 0) where
       let l : left ≡ stood.said = stood.left_is ∙ ap (λ (x : List Event). x ++ stood.said) none in
       rw l (memory_of tells side rose old world c o now stood.said p q i (speaking old world stood.said q i c (rw (is, unused) at stood.sessions) at peer_is) at turn told)
 
-  pub found_memory : (old new : State G) (world : World) (left : List Event) (tells : Type 0) (side : Side) (rose : List Deed → Type 0) (o : Option code.Outs) (p : ℕ) (stood : Stands stands old world left) → stood.ordered ≡ []
+  pub found_memory : (old new : State G) (world : World) (left : List Event) (tells : Type 0) (side : Side) (rose : Passing) (o : Option code.Outs) (p : ℕ) (stood : Stands stands old world left) → stood.ordered ≡ []
       → PeersTurn tells side rose old o new → IfSome o (λ out. out.close ≡ Some (p, why.Memory) → HasLost p old.clients ⊎ (MeetsLine p left ⊎ WaitsToBeTold p world))
   found_memory old new world left tells side rose None p stood none turn = tt
   found_memory old new world left tells side rose (Some o) p stood none turn = λ told. elim (peers_memory old new world left tells side rose o p stood none turn (ap closing_of told)) [
@@ -242,7 +242,7 @@ module _ {G : Type 0} (stands : G → Chain → Type 0) where
       let z = zip_at (IsSession old.speaker stood.said) old.clients world.sessions i first.0 stood.sessions.each first.1 in
       true≢false (sym (sym z.2.waits ∙ first.2) ∙ all_at _ world.sessions i z.0 (none_wait_world world.sessions all_told) z.1)
 
-  long_of : (tells : Type 0) (side : Side) (rose : List Deed → Type 0) (s : State G) (world : World) (c : ClientState) (o : Option code.Outs) (next : Option ClientState) (rest : List Event) (p q i : ℕ) → Speaking s world (says p too_long ∷ rest) q i c
+  long_of : (tells : Type 0) (side : Side) (rose : Passing) (s : State G) (world : World) (c : ClientState) (o : Option code.Outs) (next : Option ClientState) (rest : List Event) (p q i : ℕ) → Speaking s world (says p too_long ∷ rest) q i c
       → slice_get s.clients i ≡ Some c → (HasLost p s.clients → ⊥) → ClientTurn tells side rose c o next → LongBy p o
   long_of tells side rose s world c o next rest p q i w at kept (loses o' lost some is gone_is still) = absurd (kept (c, contains_at s.clients i c at, whose c w.session.heard p too_long rest w.hears, lost))
   long_of tells side rose s world c o next rest p q i w at kept (departs o' k next_line some is gone_is still) =
@@ -257,7 +257,7 @@ module _ {G : Type 0} (stands : G → Chain → Type 0) where
       let none_after = left_none (says c.peer) (lines line_limit w.session.heard) d.given (all_met c w.session.heard d.given w.is.limit idle.given_all d.at) in
       absurd (let e = d.left_is ∙ none_after in cc)
 
-  pub peers_long : (old new : State G) (world : World) (p : ℕ) (rest : List Event) (tells : Type 0) (side : Side) (rose : List Deed → Type 0) (o : Option code.Outs) → Stands stands old world (says p too_long ∷ rest)
+  pub peers_long : (old new : State G) (world : World) (p : ℕ) (rest : List Event) (tells : Type 0) (side : Side) (rose : Passing) (o : Option code.Outs) → Stands stands old world (says p too_long ∷ rest)
       → is_client p world ≡ true → (HasLost p old.clients → ⊥) → PeersTurn tells side rose old o new → LongBy p o
   peers_long old new world p rest tells side rose o stood is_one kept (closes q o' waits_q some outs_is next still) =
       let n = none_ordered_before old world p too_long rest stood in

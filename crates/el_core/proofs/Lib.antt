@@ -17,3 +17,4 @@ pub mod Replying
 pub mod Measured
 pub mod Numbers
 pub mod Messages
+pub mod LineRows

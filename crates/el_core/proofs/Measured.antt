@@ -9,7 +9,7 @@ use Rattle.el_side.specs.Side.{Side}
 use Rattle.el_core.specs.State.{State, ClientState, IsIdle, is_numbered, waiting, work, work_of_node, work_of_client, work_of_clients, work_of_speaker, work_of_peers}
 use Rattle.el_core.specs.Arrivals.{gone_from, kept_clients, kept_speaker}
 use Rattle.el_lines.specs.LineStates.{held}
-use Rattle.el_core.specs.within.Clients.{TellsAt, IsFirstWaiting, all_wait, replaced, IsPlace, ClientTurn, TurnsAt, SpeakerSteps, steps, speaker_after, PeersTurn, has_turn}
+use Rattle.el_core.specs.within.Clients.{Passing, TellsAt, IsFirstWaiting, all_wait, replaced, IsPlace, ClientTurn, TurnsAt, SpeakerSteps, steps, speaker_after, PeersTurn, has_turn}
 use Rattle.el_core.specs.declared.out.Outs.{Outs}
 use Rattle.el_core.proofs.Places.{same_some, no_some}
 
@@ -24,14 +24,14 @@ speaker_stays None left o p c e some same is = absurd (no_some o (sym some))
 speaker_stays (Some q) None o p c e some same is = absurd (true≢false (sym e))
 speaker_stays (Some q) (Some d) o p c e some same is = ap (λ (n : ℕ). Some n) (sym (same.0 ∙ is))
 
-pub steps_of : {G : Type 0} (says : ClientState → Option ClientState → Type 0) (tells : Type 0) (side : Side) (rose : List Deed → Type 0) (s new : State G) (outs : Option Outs) (stays : Bool) (p i : ℕ) → s.speaker ≡ Some p → IsPlace p s.clients (Some i)
+pub steps_of : {G : Type 0} (says : ClientState → Option ClientState → Type 0) (tells : Type 0) (side : Side) (rose : Passing) (s new : State G) (outs : Option Outs) (stays : Bool) (p i : ℕ) → s.speaker ≡ Some p → IsPlace p s.clients (Some i)
     → (t : TurnsAt says i s.clients outs stays new.clients) → ((c : ClientState) (left : Option ClientState) → says c left → ClientTurn tells side rose c outs left)
-    → new ≡ record s { ledger = new.ledger; caches = new.caches; clients = new.clients; speaker = new.speaker } → (t.client.peer ≡ p → new.speaker ≡ speaker_after outs t.left) → SpeakerSteps tells side rose s outs new
+    → new ≡ record s { ledger = new.ledger; caches = new.caches; desk = new.desk; clients = new.clients; speaker = new.speaker } → (t.client.peer ≡ p → new.speaker ≡ speaker_after outs t.left) → SpeakerSteps tells side rose s outs new
 steps_of {G} says tells side rose s new outs stays p i is place t turn same speaker =
     let peer : t.client.peer ≡ p = ap (λ (d : ClientState). d.peer) (same_some _ _ (sym t.at ∙ place.1)) ∙ place.2 in
     steps p i t.client t.left is t.at peer (turn t.client t.left t.said)
-    (same ∙ ap (λ (cs : List ClientState). record s { ledger = new.ledger; caches = new.caches; clients = cs; speaker = new.speaker }) t.next_is
-    ∙ ap (λ (u : Option ℕ). record s { ledger = new.ledger; caches = new.caches; clients = replaced i t.left s.clients; speaker = u }) (speaker peer))
+    (same ∙ ap (λ (cs : List ClientState). record s { ledger = new.ledger; caches = new.caches; desk = new.desk; clients = cs; speaker = new.speaker }) t.next_is
+    ∙ ap (λ (u : Option ℕ). record s { ledger = new.ledger; caches = new.caches; desk = new.desk; clients = replaced i t.left s.clients; speaker = u }) (speaker peer))
 
 length_replaced : (cs : List ClientState) (i : ℕ) (left : Option ClientState) → length (replaced i left cs) ≤ length cs
 length_replaced [] i left = omega arith
@@ -90,11 +90,11 @@ on_some None P p = tt
 on_some (Some a) P p = p
 
 -- the turn of the client that speaks, where no client too many waits
-pub peers_of : {G : Type 0} (tells : Type 0) (side : Side) (rose : G → List Deed → Type 0) (s mid next : State G) (o : Option Outs) → s.surplus ≡ None → mid ≡ record s { surplus = None }
-    → SpeakerSteps tells side (rose mid.ledger) mid o next → PeersTurn tells side (rose s.ledger) s o next
+pub peers_of : {G : Type 0} (tells : Type 0) (side : Side) (rose : State G → Passing) (s mid next : State G) (o : Option Outs) → s.surplus ≡ None → mid ≡ record s { surplus = None }
+    → SpeakerSteps tells side (rose mid) mid o next → PeersTurn tells side (rose s) s o next
 peers_of {G} tells side rose s mid next o unused made turn =
     let same : mid ≡ s = made ∙ ap (λ (x : Option ℕ). record s { surplus = x }) (sym unused) in
-    has_turn unused (subst (λ (m : State G). SpeakerSteps tells side (rose m.ledger) m o next) same turn)
+    has_turn unused (subst (λ (m : State G). SpeakerSteps tells side (rose m) m o next) same turn)
 
 -- ---- a client goes
 
@@ -148,11 +148,11 @@ gone_work {G} s p =
     let m = mul-le-mul_left (work_of_node (held s.node) (length s.holdings.tree) (length s.ahead)) (let e : length (kept_clients p s.clients) + 1 ≤ length s.clients + 1 = omega arith in e) in
     omega arith
 
-pub same_of : {G : Type 0} (s mid next : State G) → mid ≡ record s { surplus = None } → next ≡ record mid { ledger = next.ledger; caches = next.caches; clients = next.clients; speaker = next.speaker }
-    → next ≡ record s { ledger = next.ledger; caches = next.caches; clients = next.clients; speaker = next.speaker; surplus = next.surplus }
+pub same_of : {G : Type 0} (s mid next : State G) → mid ≡ record s { surplus = None } → next ≡ record mid { ledger = next.ledger; caches = next.caches; desk = next.desk; clients = next.clients; speaker = next.speaker }
+    → next ≡ record s { ledger = next.ledger; caches = next.caches; desk = next.desk; clients = next.clients; speaker = next.speaker; surplus = next.surplus }
 same_of {G} s mid next a b =
-    b ∙ ap (λ (m : State G). record m { ledger = next.ledger; caches = next.caches; clients = next.clients; speaker = next.speaker }) a
-    ∙ ap (λ (u : Option ℕ). record s { ledger = next.ledger; caches = next.caches; clients = next.clients; speaker = next.speaker; surplus = u }) (sym (ap (λ (t : State G). t.surplus) b ∙ ap (λ (t : State G). t.surplus) a))
+    b ∙ ap (λ (m : State G). record m { ledger = next.ledger; caches = next.caches; desk = next.desk; clients = next.clients; speaker = next.speaker }) a
+    ∙ ap (λ (u : Option ℕ). record s { ledger = next.ledger; caches = next.caches; desk = next.desk; clients = next.clients; speaker = next.speaker; surplus = u }) (sym (ap (λ (t : State G). t.surplus) b ∙ ap (λ (t : State G). t.surplus) a))
 
 -- ---- the telling of a client
 
@@ -263,7 +263,7 @@ line_less {G} old mid new same less fewer more all_wait_so then =
       work_waits old.speaker old.clients,
     ) all
 
-pub peers_less : {G : Type 0} (old new : State G) (o : Option Outs) → new ≡ record old { ledger = new.ledger; caches = new.caches; clients = new.clients; speaker = new.speaker; surplus = new.surplus }
+pub peers_less : {G : Type 0} (old new : State G) (o : Option Outs) → new ≡ record old { ledger = new.ledger; caches = new.caches; desk = new.desk; clients = new.clients; speaker = new.speaker; surplus = new.surplus }
     → length (waiting new.clients) ≤ length (waiting old.clients) → length new.clients ≤ length old.clients → OnSome o (work_of_peers new < work_of_peers old) → IfSome o (λ out. work new < work old)
 peers_less old new None same waits fewer less = tt
 peers_less {G} old new (Some o) same waits fewer less =
@@ -283,7 +283,7 @@ told_less says n i surplus cs next u t first =
 
 -- nothing is left to do
 pub peers_idle : {G : Type 0} (old new : State G) (o : Option Outs) → old.ahead ≡ [] → waiting old.clients ≡ [] → length (waiting new.clients) ≤ length (waiting old.clients)
-    → new ≡ record old { ledger = new.ledger; caches = new.caches; clients = new.clients; speaker = new.speaker; surplus = new.surplus }
+    → new ≡ record old { ledger = new.ledger; caches = new.caches; desk = new.desk; clients = new.clients; speaker = new.speaker; surplus = new.surplus }
     → IfNone o ((new.speaker ≡ None) × (new.surplus ≡ None)) → IfNone o (IsIdle new)
 peers_idle old new (Some o) still quiet_all waits same done = tt
 peers_idle {G} old new None still quiet_all waits same done = record {

@@ -5,7 +5,7 @@ use Rattle.el_base.specs.declared.hash.Hash32.{Hash32}
 use Rattle.std.proofs.lemmas.Option.{slice_get_within}
 use Rattle.el_outside.specs.Counts.{CountsOnly, RoseBy}
 use Rattle.el_side.specs.Deeds as deed
-use Rattle.el_side.specs.Deeds.{Deed}
+use Rattle.el_side.specs.Deeds.{Deed, offers}
 use Rattle.el_side.proofs.Deeds.{all_rose_none, rose_of, rose_still}
 use Rattle.el_outside.proofs.Traces.{all_grow_none}
 use Rattle.el_chain.specs.declared.moves.Plan.{Plan}
@@ -13,7 +13,11 @@ use Rattle.el_chain.specs.declared.node.Node.{Node}
 use Rattle.el_chain.specs.Chains.{Chain}
 use Rattle.el_chain.specs.Moves.{StoodBy}
 use Rattle.el_model.specs.LedgerCalls.{Moved}
+use Rattle.el_outside.specs.declared.relay.Relay as relays
 use Rattle.el_side.specs.Beneath.{Beneath}
+use Rattle.el_replies.specs.Spending.{asked_ghosts}
+use Rattle.el_core.proofs.Losing.{did_of}
+use Rattle.el_core.proofs.Starving.{moving_offers, line_offers}
 use Rattle.el_side.specs.NodeSteps.{IsAt, Leads, StepLeft}
 use Rattle.el_lines.specs.Lines.{LineEvent, lines}
 use Rattle.el_lines.specs.NodeAnswers.{node_limit, text_of}
@@ -35,7 +39,7 @@ use Rattle.el_sync.specs.declared.moving.Step.{Step}
 use Rattle.el_model.specs.declared.fault.QueryFault.TheVariants as fault
 use Rattle.el_side.specs.Beneath.{Ghosts, Lost, beneath, failed_beneath}
 use Rattle.el_sync.proofs.Compared.{moving_any}
-use Rattle.el_core.specs.State.{State, NodeLeaves, NoneWaits, Stands, serving}
+use Rattle.el_core.specs.State.{State, NodeLeaves, NoneWaits, Stands, serving, lent}
 use Rattle.el_core.specs.Turn.{TookTurn, TurnFailed, GoesTo, outs_of, stop_of}
 use Rattle.el_core.specs.within.Answering.{Answered, NodeKeeps}
 use Rattle.el_core.specs.within.Clients.{Gives, begun_at}
@@ -200,6 +204,7 @@ module _ {G A : Type 0} (of : Ghosts G A) where
     pub stood : Stands of.ledger.stands old world left
     pub answered : Answered of leads (serving old before) (serving new after) world.side stood.start o
     pub magic : new.holdings.magic ≡ old.holdings.magic
+    pub desk : new.desk ≡ old.desk
     pub clients : new.clients ≡ old.clients
     pub speaker : new.speaker ≡ old.speaker
     pub surplus : new.surplus ≡ old.surplus
@@ -211,12 +216,12 @@ module _ {G A : Type 0} (of : Ghosts G A) where
   to_node_goes o text next surplus is = rw is (inl refl, tt)
 
   -- `base` and `start` are as the turn began, `old` and `world` as the step began
-  built : (leads : NodeAnswer → List Deed → Side → Type 0) (base old new : State G) (before after : A) (start world : World) (left : List Event) (o : Outs) (r : NodeTurned leads old new before after world left o)
+  built : {Y : Type 0} (of_relay : relays.Ghosts Y) (y : Y) (leads : NodeAnswer → List Deed → Side → Type 0) (base old new : State G) (before after : A) (start world : World) (left : List Event) (o : Outs) (r : NodeTurned leads old new before after world left o)
       (done ordered : List Event) → old.ledger ≡ base.ledger → world.side ≡ start.side → left ≡ done ++ (ordered ++ r.stood.said)
       → OneTurn of.files start done (outs_of o) r.answered.led.losses (record world { side = r.answered.led.next })
       → ((q : ℕ) → old.speaker ≡ Some q → (ordered ≡ []) × NoneWaits world.sessions) → ((q : ℕ) → old.surplus ≡ Some q → (ordered ≡ []) × NoneWaits world.sessions)
-      → NodeLeaves new.node world.heard ordered → TookTurn of (serving base before) (serving new after) start left (outs_of o)
-  built leads base old new before after start world left o r done ordered ledger_is side_is whole turn spoken surplus_so node =
+      → NodeLeaves new.node world.heard ordered → offers r.answered.led.losses ≡ [] → TookTurn (asked_ghosts of of_relay) (lent base before y) (lent new after y) start left (outs_of o)
+  built of_relay y leads base old new before after start world left o r done ordered ledger_is side_is whole turn spoken surplus_so node none =
       let a = r.answered in
       let led = a.led in
       record {
@@ -240,6 +245,7 @@ module _ {G A : Type 0} (of : Ghosts G A) where
           speaker_last = λ q e. spoken q (sym r.speaker ∙ e);
           surplus_last = λ q e. surplus_so q (sym r.surplus ∙ e);
           before = λ sure. r.before_is ∙ r.stood.before (sym led.sure_is ∙ sure);
+          desk = r.desk ∙ r.stood.desk;
           tellings = tellings_led world.side led.next r.stood.start led.next_start a.moved a.changed old.touched new.touched old.clients world.sessions old.speaker r.stood.said
               r.stood.tellings led.sure_is led.touches a.covers r.stood.sessions.each r.waits;
           left_is = refl;
@@ -248,18 +254,20 @@ module _ {G A : Type 0} (of : Ghosts G A) where
             (subst (λ (s : Side). Moved of.ledger old.ledger new.ledger s.chain led.next.chain) side_is (led.went (ap (λ (s : Side). s.sure) side_is ∙ sure)));
         told = led.told;
         sends_to = to_node_goes (outs_of o) (text_of a.answer) (record world { side = led.next }) new.surplus a.sends;
-        rose = subst (λ (k : G). Lost of (beneath k before) (beneath new.ledger after) led.losses) ledger_is led.rose;
+        did = did_of (asked_ghosts of of_relay) (beneath base.ledger before) (beneath new.ledger after) y base.desk new.desk led.losses none
+            (subst (λ (k : G). Lost of (beneath k before) (beneath new.ledger after) led.losses) ledger_is led.rose);
       }
 
   -- the next move of the node's last tip line
-  pub ahead_step : (old new : State G) (before after : A) (world : World) (left : List Event) (o : Outs)
+  pub ahead_step : {Y : Type 0} (of_relay : relays.Ghosts Y) (y : Y) (old new : State G) (before after : A) (world : World) (left : List Event) (o : Outs)
       → NodeTurned (Moving of.files world.side 0 world.side.ahead) old new before after world left o → (world.side.ahead ≡ [] → ⊥) → new.node ≡ old.node
-      → TookTurn of (serving old before) (serving new after) world left (outs_of o)
-  ahead_step old new before after world left o r some node =
+      → TookTurn (asked_ghosts of of_relay) (lent old before y) (lent new after y) world left (outs_of o)
+  ahead_step of_relay y old new before after world left o r some node =
       let a = r.answered in
-      built (Moving of.files world.side 0 world.side.ahead) old old new before after world world left o r [] r.stood.ordered refl refl r.stood.left_is
+      built of_relay y (Moving of.files world.side 0 world.side.ahead) old old new before after world world left o r [] r.stood.ordered refl refl r.stood.left_is
       (run.works (moving_any 0 world.side.ahead some) refl (record { answer = a.answer; side = a.led.next; led = a.led.led; outs_is = a.sends; next_is = refl }))
       r.stood.speaker_last r.stood.surplus_last (rw node r.stood.node)
+      (moving_offers of.files world.side a.answer a.led.losses a.led.next 0 world.side.ahead a.led.led)
 
   -- a line of the node: the rest of the events
   rest_after : (left said ordered rest : List Event) (e : LineEvent) → left ≡ ordered ++ said → ordered ≡ orders e ∷ rest → left ≡ (orders e ∷ []) ++ (rest ++ said)
@@ -270,16 +278,16 @@ module _ {G A : Type 0} (of : Ghosts G A) where
   never u ordered rest e P Q is last q speaks = absurd (let n = (last q speaks).0 in let f = sym is ∙ n in cc)
 
   -- it has begun, and is worked
-  pub node_step : (base old new : State G) (before after : A) (start : World) (left : List Event) (o : Outs) (e : LineEvent)
+  pub node_step : {Y : Type 0} (of_relay : relays.Ghosts Y) (y : Y) (base old new : State G) (before after : A) (start : World) (left : List Event) (o : Outs) (e : LineEvent)
       (r : NodeTurned (OrdersLine of.files start.side e) old new before after (begun start) left o) → NextOrder new.node start.heard r.stood.ordered e → IsStill start → AllTold start → old.ledger ≡ base.ledger
-      → TookTurn of (serving base before) (serving new after) start left (outs_of o)
-  node_step base old new before after start left o e r n still all_told ledger_is =
+      → TookTurn (asked_ghosts of of_relay) (lent base before y) (lent new after y) start left (outs_of o)
+  node_step of_relay y base old new before after start left o e r n still all_told ledger_is =
       let a = r.answered in
-      built (OrdersLine of.files start.side e) base old new before after start (begun start) left o r (orders e ∷ []) n.rest ledger_is refl
+      built of_relay y (OrdersLine of.files start.side e) base old new before after start (begun start) left o r (orders e ∷ []) n.rest ledger_is refl
       (rest_after left r.stood.said r.stood.ordered n.rest e r.stood.left_is n.first_is)
       (run.takes (orders e) still all_told refl (record { answer = a.answer; side = a.led.next; led = a.led.led; outs_is = a.sends; next_is = refl }))
       (never old.speaker r.stood.ordered n.rest e _ _ n.first_is r.stood.speaker_last) (never old.surplus r.stood.ordered n.rest e _ _ n.first_is r.stood.surplus_last)
-      n.node
+      n.node (line_offers of.files start.side a.answer a.led.losses a.led.next e a.led.led)
 
   -- ---- turns that fail
 

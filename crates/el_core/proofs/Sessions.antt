@@ -182,6 +182,7 @@ module _ {G : Type 0} (stands : G → Chain → Type 0) where
         (l.0, all_filter _ _ world.sessions l.1);
     surplus_last = λ q e. absurd (no_some q (sym e ∙ unused));
     before = stood.before;
+    desk = stood.desk;
     tellings = tellings_gone world.side stood.start s.touched world.sessions p stood.tellings;
     left_is = stood.left_is;
   }

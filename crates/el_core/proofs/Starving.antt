@@ -3,7 +3,7 @@ use Rattle.std.proofs.Common.{◌≡◌, ◌⊎◌, inl, inr, ℕ, Bool, true, f
 use Rattle.el_base.specs.declared.hash.Hash32.{Hash32}
 use Rattle.el_outside.specs.declared.archive.Archive as archives
 use Rattle.el_side.specs.Deeds as deed
-use Rattle.el_side.specs.Deeds.{Deed, archive}
+use Rattle.el_side.specs.Deeds.{Deed, archive, offers}
 use Rattle.el_outside.specs.Files.{AllGrow}
 use Rattle.el_chain.specs.declared.node.Node.{Node}
 use Rattle.el_chain.specs.declared.moves.Plan.{Plan}
@@ -191,6 +191,19 @@ module _ {A : Type 0} (f : archives.Ghosts A) (side : Side) (answer : NodeAnswer
   lost_line : (e : LineEvent) → OrdersLine f side e answer losses next → LostOrNot answer losses
   lost_line too_long orders = inl orders.2
   lost_line (line bytes) orders = lost_said orders.0 orders.2
+
+-- no offer is among it
+none_offered : (answer : NodeAnswer) (losses : List Deed) → LostOrNot answer losses → offers losses ≡ []
+none_offered answer losses (inl none) = ap offers none
+none_offered answer losses (inr one) = ap offers one.1
+
+pub moving_offers : {A : Type 0} (f : archives.Ghosts A) (side : Side) (answer : NodeAnswer) (losses : List Deed) (next : Side) (back : ℕ) (rest : List Node)
+    → Moving f side back rest answer losses next → offers losses ≡ []
+moving_offers f side answer losses next back rest move = none_offered answer losses (lost_moving f side answer losses next back rest move)
+
+pub line_offers : {A : Type 0} (f : archives.Ghosts A) (side : Side) (answer : NodeAnswer) (losses : List Deed) (next : Side) (e : LineEvent)
+    → OrdersLine f side e answer losses next → offers losses ≡ []
+line_offers f side answer losses next e orders = none_offered answer losses (lost_line f side answer losses next e orders)
 
 module _ {G A : Type 0} (of : Ghosts G A) where
   fails_so : (was now : Beneath G A) (chain : Chain) (later : Bool) (answer : NodeAnswer) (losses : List Deed) → (answer ≡ say.Refused refusal.Archive → later ≡ true) → Lost of was now losses

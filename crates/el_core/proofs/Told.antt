@@ -3,7 +3,7 @@ use Rattle.std.proofs.Common.{◌≡◌, inl, inr, ℕ, zero, suc, true, false, 
 use Rattle.std.specs.List.{AllByRecursion, AllZip}
 use Rattle.el_outside.specs.Counts.{RoseBy}
 use Rattle.el_side.specs.Deeds as deed
-use Rattle.el_side.specs.Deeds.{Deed, failures}
+use Rattle.el_side.specs.Deeds.{Deed, failures, offers}
 use Rattle.el_outside.specs.Files.{AllGrow}
 use Rattle.el_outside.specs.Trace.{Message, Closing}
 use Rattle.el_side.proofs.Deeds.{rose_still}
@@ -11,7 +11,8 @@ use Rattle.el_chain.specs.Chains.{Chain}
 use Rattle.el_mempool.specs.Standing.{StandsFor}
 use Rattle.el_model.specs.LedgerCalls.{Asked, Moved}
 use Rattle.el_model.proofs.LedgerMoves.{LeavesOwn, asked_moved}
-use Rattle.el_side.specs.Beneath.{Ghosts}
+use Rattle.el_replies.specs.Spending.{AskedGhosts}
+use Rattle.el_side.specs.Beneath.{beneath}
 use Rattle.el_subs.specs.Told as status_told
 use Rattle.el_subs.specs.Told.{status}
 use Rattle.el_subs.specs.Notices.{notified}
@@ -22,10 +23,10 @@ use Rattle.el_world.specs.World.{World, Session, Event, IsStill, Outs, closes_di
 use Rattle.el_world.specs.World as model
 use Rattle.el_world.specs.Run as run
 use Rattle.el_world.specs.Run.{OneTurn}
-use Rattle.el_core.specs.State.{State, ClientState, IsSession, IsUntouched, SessionsAre, NoneWaits, AllVoid, Stands, serving}
+use Rattle.el_core.specs.State.{State, ClientState, IsSession, IsUntouched, SessionsAre, NoneWaits, AllVoid, Stands, lent}
 use Rattle.el_core.specs.Turn.{TookTurn, GoesTo}
 use Rattle.el_core.specs.within.Clients.{TellTurn, tells, fails, starves, unsure, TellsAt, IsToTell, IsFirstWaiting, told_client, replaced}
-use Rattle.el_core.proofs.Losing.{lost_of}
+use Rattle.el_core.proofs.Losing.{lost_of, did_of}
 use Rattle.el_core.proofs.Peers.{at_replaced}
 use Rattle.el_core.proofs.Places.{Both, IfThere, same_some, no_some, zip_at, zip_replaced, all_at, all_map, all_replaced, rising_replaced, one_mapped, one_filtered, one_there, none_found, found_none}
 use Rattle.el_core.proofs.Sessions.{zip_all}
@@ -102,30 +103,31 @@ to_tell stands old world left i c stood still at =
       others = λ sure. rw z.2.kept (others_of world.side stood.start old.touched z.0.client.subs start_is (all_at _ world.sessions i z.0 (stood.tellings.untouched sure) z.1));
     }
 
-module _ {G A : Type 0} (of : Ghosts G A) where
+module _ {G A Y : Type 0} (of : AskedGhosts G A Y) where
   -- What is known beside the telling of the client at that place.
   pub record BesideTelling (old new : State G) (files : A) (world : World) (left : List Event) (i : ℕ) : Type 0 where
-    pub stood : Stands of.ledger.stands old world left
-    pub told : of.files.tells → AllGrow world.side.files (of.files.bytes files)
+    pub stood : Stands of.beneath.ledger.stands old world left
+    pub told : of.beneath.files.tells → AllGrow world.side.files (of.beneath.files.bytes files)
     pub still : IsStill world
     pub first : IsFirstWaiting old.clients (Some i)
-    pub went : IsSure world.side → Moved of.ledger old.ledger new.ledger world.side.chain world.side.chain
+    pub went : IsSure world.side → Moved of.beneath.ledger old.ledger new.ledger world.side.chain world.side.chain
     pub same : new ≡ record old { ledger = new.ledger; clients = new.clients }
 
   -- the client and its session changed, or both gone
-  told_by : (old new : State G) (files : A) (world : World) (left : List Event) (o : Outs) (i : ℕ) (r : BesideTelling old new files world left i) (c : ClientState) (x : Session)
+  told_by : (old new : State G) (files : A) (y : Y) (world : World) (left : List Event) (o : Outs) (i : ℕ) (r : BesideTelling old new files world left i) (c : ClientState) (x : Session)
       (now : Option ClientState) (session : Option Session) (losses : List Deed)
       → SessionsAre old.clients None None world.sessions r.stood.said → old.speaker ≡ None → old.surplus ≡ None → slice_get world.sessions i ≡ Some x
       → new.clients ≡ replaced i now old.clients → Both (IsSession None r.stood.said) now session → IfThere (λ (n : Session). n.peer ≡ x.peer) session
       → (IsSure world.side → IfThere (λ (n : Session). status_told.AllTold (status world.side.chain world.side.kept) n.client.subs) session)
-      → OneTurn of.files world [] o losses (record world { sessions = replaced i session world.sessions })
-      → AllByRecursion (GoesTo (record world { sessions = replaced i session world.sessions }) None o.closing) o.messages → RoseBy (of.ledger.faults old.ledger) (of.ledger.faults new.ledger) (failures deed.disk losses)
-      → failures deed.link losses ≡ 0 → failures deed.relay losses ≡ 0 → failures deed.archive losses ≡ 0
-      → TookTurn of (serving old files) (serving new files) world left o
-  told_by old new files world left o i r c x now session losses are no_speaker no_surplus at clients both same statuses turn sends rose no_link no_relay no_files =
+      → OneTurn of.beneath.files world [] o losses (record world { sessions = replaced i session world.sessions })
+      → AllByRecursion (GoesTo (record world { sessions = replaced i session world.sessions }) None o.closing) o.messages → RoseBy (of.beneath.ledger.faults old.ledger) (of.beneath.ledger.faults new.ledger) (failures deed.disk losses)
+      → failures deed.link losses ≡ 0 → failures deed.relay losses ≡ 0 → failures deed.archive losses ≡ 0 → offers losses ≡ []
+      → TookTurn of (lent old files y) (lent new files y) world left o
+  told_by old new files y world left o i r c x now session losses are no_speaker no_surplus at clients both same statuses turn sends rose no_link no_relay no_files no_offers =
       let st = r.stood in
       let speaker : new.speaker ≡ None = ap (λ (s : State G). s.speaker) r.same ∙ no_speaker in
       let surplus : new.surplus ≡ None = ap (λ (s : State G). s.surplus) r.same ∙ no_surplus in
+      let desk_is : new.desk ≡ old.desk = ap (λ (s : State G). s.desk) r.same in
       let start_is = st.set.still r.still in
       let void = void_replaced world.sessions i x session st.said at same are.leaves_left in
       let now_are : SessionsAre (replaced i now old.clients) None None (replaced i session world.sessions) st.said = record {
@@ -154,13 +156,15 @@ module _ {G A : Type 0} (of : Ghosts G A) where
           speaker_last = λ q e. absurd (no_some q (sym e ∙ speaker));
           surplus_last = λ q e. absurd (no_some q (sym e ∙ surplus));
           before = λ sure. ap (λ (s : State G). s.before) r.same ∙ st.before sure;
+          desk = desk_is ∙ st.desk;
           tellings = rw (ap (λ (s : State G). s.touched) r.same) (tellings_replaced world.side st.start old.touched world.sessions i session st.tellings (λ sure. unmoved session start_is (statuses sure)) (λ sure. already session (statuses sure)) r.still);
           left_is = st.left_is;
         };
         moved = r.went;
         told = r.told;
         sends_to = rw surplus sends;
-        rose = lost_of of old.ledger new.ledger files files losses no_link no_relay (rw no_files (rose_still _ _ refl)) rose;
+        did = did_of of (beneath old.ledger files) (beneath new.ledger files) y old.desk new.desk losses no_offers
+            (lost_of of.beneath old.ledger new.ledger files files losses no_link no_relay (rw no_files (rose_still _ _ refl)) rose);
       }
     where
       unmoved : (n : Option Session) → r.stood.start ≡ world.side.chain → IfThere (λ (m : Session). status_told.AllTold (status world.side.chain world.side.kept) m.client.subs) n
@@ -174,46 +178,46 @@ module _ {G A : Type 0} (of : Ghosts G A) where
       already (Some m) all = λ e. all
 
   -- it is told, or closed
-  tell_one : (old new : State G) (files : A) (world : World) (left : List Event) (o : Outs) (i : ℕ) (r : BesideTelling old new files world left i) (c : ClientState) (now : Option ClientState) (x : Session)
+  tell_one : (old new : State G) (files : A) (y : Y) (world : World) (left : List Event) (o : Outs) (i : ℕ) (r : BesideTelling old new files world left i) (c : ClientState) (now : Option ClientState) (x : Session)
       → IsSession None r.stood.said c x → SessionsAre old.clients None None world.sessions r.stood.said → slice_get world.sessions i ≡ Some x → old.speaker ≡ None → old.surplus ≡ None
-      → next_told world ≡ Some x → new.clients ≡ replaced i now old.clients → TellTurn world.side old.before (λ n. RoseBy (of.ledger.faults old.ledger) (of.ledger.faults new.ledger) n) c o now
-      → TookTurn of (serving old files) (serving new files) world left o
-  tell_one old new files world left o i r c now x is are x_at no_speaker no_surplus next_is clients (tells sure outs_is now_is rose) =
+      → next_told world ≡ Some x → new.clients ≡ replaced i now old.clients → TellTurn world.side old.before (λ n. RoseBy (of.beneath.ledger.faults old.ledger) (of.beneath.ledger.faults new.ledger) n) c o now
+      → TookTurn of (lent old files y) (lent new files y) world left o
+  tell_one old new files y world left o i r c now x is are x_at no_speaker no_surplus next_is clients (tells sure outs_is now_is rose) =
       let mapped = one_mapped x.peer (λ (y : Session). told world x) world.sessions i x are.rising x_at refl in
       let there = one_there x.peer (replaced i (Some (told world x)) world.sessions) i (told world x) (at_replaced world.sessions i x (told world x) x_at) refl in
       let o_is : o ≡ outs_of_telling world x = outs_is ∙ rw (is.peer, is.kept, r.stood.before sure) refl in
-      told_by old new files world left o i r c x (Some (told_client world.side c)) (Some (told world x)) [] are no_speaker no_surplus x_at
+      told_by old new files y world left o i r c x (Some (told_client world.side c)) (Some (told world x)) [] are no_speaker no_surplus x_at
       (clients ∙ ap (λ (n : Option ClientState). replaced i n old.clients) now_is) (told_session world r.stood.said c x is) refl (λ s. marked_told (status world.side.chain world.side.kept) x.client.subs)
       (run.notifies r.still refl (model.tells x next_is o_is (ap (λ (ss : List Session). record world { sessions = ss }) (sym mapped)) refl))
-      (rw o_is (goes_to_all (record world { sessions = replaced i (Some (told world x)) world.sessions }) None x.peer _ there)) rose refl refl refl
-  tell_one old new files world left o i r c now x is are x_at no_speaker no_surplus next_is clients (fails outs_is now_is rose) =
+      (rw o_is (goes_to_all (record world { sessions = replaced i (Some (told world x)) world.sessions }) None x.peer _ there)) rose refl refl refl refl
+  tell_one old new files y world left o i r c now x is are x_at no_speaker no_surplus next_is clients (fails outs_is now_is rose) =
       let filtered = one_filtered x.peer world.sessions i x are.rising x_at refl in
-      told_by old new files world left o i r c x None None (deed.lost deed.disk ∷ []) are no_speaker no_surplus x_at
+      told_by old new files y world left o i r c x None None (deed.lost deed.disk ∷ []) are no_speaker no_surplus x_at
       (clients ∙ ap (λ (n : Option ClientState). replaced i n old.clients) now_is) tt tt (λ s. tt)
       (run.notifies r.still refl (model.fails x next_is (outs_is ∙ ap closes_disk is.peer) (ap (λ (ss : List Session). record world { sessions = ss }) (sym filtered)) refl))
-      (rw outs_is tt) rose refl refl refl
-  tell_one old new files world left o i r c now x is are x_at no_speaker no_surplus next_is clients (starves outs_is now_is rose) =
+      (rw outs_is tt) rose refl refl refl refl
+  tell_one old new files y world left o i r c now x is are x_at no_speaker no_surplus next_is clients (starves outs_is now_is rose) =
       let filtered = one_filtered x.peer world.sessions i x are.rising x_at refl in
-      told_by old new files world left o i r c x None None [] are no_speaker no_surplus x_at
+      told_by old new files y world left o i r c x None None [] are no_speaker no_surplus x_at
       (clients ∙ ap (λ (n : Option ClientState). replaced i n old.clients) now_is) tt tt (λ s. tt)
       (run.departs x.peer (one_there x.peer world.sessions i x x_at refl) refl (outs_is ∙ ap closes_memory is.peer) (ap (λ (ss : List Session). record world { sessions = ss }) (sym filtered)) refl)
-      (rw outs_is tt) rose refl refl refl
-  tell_one old new files world left o i r c now x is are x_at no_speaker no_surplus next_is clients (unsure un some rose) =
-      let y : Session = record x { client = some.now; waits = false } in
-      let mapped = one_mapped x.peer (λ (z : Session). y) world.sessions i x are.rising x_at refl in
-      let there = one_there x.peer (replaced i (Some y) world.sessions) i y (at_replaced world.sessions i x y x_at) refl in
+      (rw outs_is tt) rose refl refl refl refl
+  tell_one old new files y world left o i r c now x is are x_at no_speaker no_surplus next_is clients (unsure un some rose) =
+      let z : Session = record x { client = some.now; waits = false } in
+      let mapped = one_mapped x.peer (λ (every : Session). z) world.sessions i x are.rising x_at refl in
+      let there = one_there x.peer (replaced i (Some z) world.sessions) i z (at_replaced world.sessions i x z x_at) refl in
       let o_is : o ≡ texts_to x.peer some.texts = some.outs_are ∙ ap (λ (q : ℕ). texts_to q some.texts) is.peer in
       let stays = subst (λ (k : known.Session). StaysSubscribed k some.now) is.kept some.stays in
-      told_by old new files world left o i r c x (Some (record c { session = some.now; waits = false })) (Some y) [] are no_speaker no_surplus x_at
+      told_by old new files y world left o i r c x (Some (record c { session = some.now; waits = false })) (Some z) [] are no_speaker no_surplus x_at
       (clients ∙ ap (λ (n : Option ClientState). replaced i n old.clients) some.left_is) (some_session r.stood.said c x some.now is) refl (λ sure. absurd (not_both world.side sure un))
       (run.notifies r.still refl (model.unsure un x some.texts some.now next_is some.told stays o_is (ap (λ (ss : List Session). record world { sessions = ss }) (sym mapped)) refl))
-      (rw o_is (goes_to_all (record world { sessions = replaced i (Some y) world.sessions }) None x.peer some.texts there)) rose refl refl refl
+      (rw o_is (goes_to_all (record world { sessions = replaced i (Some z) world.sessions }) None x.peer some.texts there)) rose refl refl refl refl
 
   -- the telling of the first client that waits
-  tell_step : (old new : State G) (files : A) (world : World) (left : List Event) (o : Outs) (i : ℕ) (r : BesideTelling old new files world left i) (c : ClientState) (now : Option ClientState)
-      → slice_get old.clients i ≡ Some c → c.waits ≡ true → new.clients ≡ replaced i now old.clients → TellTurn world.side old.before (λ n. RoseBy (of.ledger.faults old.ledger) (of.ledger.faults new.ledger) n) c o now
-      → TookTurn of (serving old files) (serving new files) world left o
-  tell_step old new files world left o i r c now at w clients turn =
+  tell_step : (old new : State G) (files : A) (y : Y) (world : World) (left : List Event) (o : Outs) (i : ℕ) (r : BesideTelling old new files world left i) (c : ClientState) (now : Option ClientState)
+      → slice_get old.clients i ≡ Some c → c.waits ≡ true → new.clients ≡ replaced i now old.clients → TellTurn world.side old.before (λ n. RoseBy (of.beneath.ledger.faults old.ledger) (of.beneath.ledger.faults new.ledger) n) c o now
+      → TookTurn of (lent old files y) (lent new files y) world left o
+  tell_step old new files y world left o i r c now at w clients turn =
       let z = zip_at (IsSession old.speaker r.stood.said) old.clients world.sessions i c r.stood.sessions.each at in
       let x = z.0 in
       let xw : x.waits ≡ true = sym z.2.waits ∙ w in
@@ -224,15 +228,15 @@ module _ {G A : Type 0} (of : Ghosts G A) where
       let is : IsSession None r.stood.said c x = subst (λ (u : Option ℕ). IsSession u r.stood.said c x) no_speaker z.2 in
       let front = zip_front (IsSession old.speaker r.stood.said) old.clients world.sessions i r.stood.sessions.each in
       let quiet_front = zip_all (IsSession old.speaker r.stood.said) (λ (d : ClientState). d.waits ≡ false) (λ (y : Session). y.waits ≡ false) (take i old.clients) (take i world.sessions) (λ d y k e. sym k.waits ∙ e) front (none_waits (take i old.clients) r.first.3) in
-      tell_one old new files world left o i r c now x is are z.1 no_speaker no_surplus (first_told world.sessions i x z.1 xw quiet_front) clients turn
+      tell_one old new files y world left o i r c now x is are z.1 no_speaker no_surplus (first_told world.sessions i x z.1 xw quiet_front) clients turn
 
-  pub tell_turned : (old new : State G) (files : A) (world : World) (left : List Event) (o : Outs) (i : ℕ) → LeavesOwn of.ledger → of.ledger.is_live old.ledger → Asked of.ledger old.ledger new.ledger
-      → Stands of.ledger.stands old world left → (of.files.tells → AllGrow world.side.files (of.files.bytes files)) → old.ahead ≡ [] → IsFirstWaiting old.clients (Some i)
+  pub tell_turned : (old new : State G) (files : A) (y : Y) (world : World) (left : List Event) (o : Outs) (i : ℕ) → LeavesOwn of.beneath.ledger → of.beneath.ledger.is_live old.ledger → Asked of.beneath.ledger old.ledger new.ledger
+      → Stands of.beneath.ledger.stands old world left → (of.beneath.files.tells → AllGrow world.side.files (of.beneath.files.bytes files)) → old.ahead ≡ [] → IsFirstWaiting old.clients (Some i)
       → new ≡ record old { ledger = new.ledger; clients = new.clients }
-      → TellsAt (λ c now. (side : Side) → IsToTell of.ledger.stands old.ledger old.holdings old.touched side c → TellTurn side old.before (λ n. RoseBy (of.ledger.faults old.ledger) (of.ledger.faults new.ledger) n) c o now) i old.clients new.clients
-      → TookTurn of (serving old files) (serving new files) world left o
-  tell_turned old new files world left o i own live asked stood grown ahead first same t =
+      → TellsAt (λ c now. (side : Side) → IsToTell of.beneath.ledger.stands old.ledger old.holdings old.touched side c → TellTurn side old.before (λ n. RoseBy (of.beneath.ledger.faults old.ledger) (of.beneath.ledger.faults new.ledger) n) c o now) i old.clients new.clients
+      → TookTurn of (lent old files y) (lent new files y) world left o
+  tell_turned old new files y world left o i own live asked stood grown ahead first same t =
       let still : IsStill world = sym stood.ahead ∙ ahead in
-      tell_step old new files world left o i
-      (record { stood = stood; told = grown; still = still; first = first; went = λ sure. asked_moved of.ledger old.ledger new.ledger world.side.chain own live asked (stood.chain sure); same = same })
-      t.client t.left t.at (ap (λ (d : ClientState). d.waits) (same_some _ _ (sym t.at ∙ first.1)) ∙ first.2) t.next_is (t.said world.side (to_tell of.ledger.stands old world left i t.client stood still t.at))
+      tell_step old new files y world left o i
+      (record { stood = stood; told = grown; still = still; first = first; went = λ sure. asked_moved of.beneath.ledger old.ledger new.ledger world.side.chain own live asked (stood.chain sure); same = same })
+      t.client t.left t.at (ap (λ (d : ClientState). d.waits) (same_some _ _ (sym t.at ∙ first.1)) ∙ first.2) t.next_is (t.said world.side (to_tell of.beneath.ledger.stands old world left i t.client stood still t.at))

@@ -22,11 +22,13 @@ use Rattle.el_sync.specs.Steps.{Fails, IsFrom, StopsAt}
 use Rattle.el_model.specs.declared.fault.QueryFault.{QueryFault}
 use Rattle.el_model.specs.declared.fault.QueryFault.TheVariants as fault
 use Rattle.el_side.specs.Caching.{CachesStand, CachesStay}
-use Rattle.el_side.specs.Beneath.{Ghosts, Lost, beneath, failed_beneath}
-use Rattle.el_core.specs.State.{State, ClientState, HasGivenAll, IsSession, SessionsAre, AllVoid, Stands, waiting, serving}
+use Rattle.el_outside.specs.declared.relay.Relay as relays
+use Rattle.el_replies.specs.Spending.{asked_ghosts}
+use Rattle.el_side.specs.Beneath.{Ghosts, beneath, failed_beneath}
+use Rattle.el_core.specs.State.{State, ClientState, HasGivenAll, IsSession, SessionsAre, AllVoid, Stands, waiting, serving, lent, asking_of}
 use Rattle.el_core.specs.Turn.{TookTurn, TurnFailed, IsDone, outs_of}
 use Rattle.el_core.specs.within.Answering.{Answered}
-use Rattle.el_core.specs.within.Clients.{Gives, NextIsLine, PeersTurn, all_wait, begun_at}
+use Rattle.el_core.specs.within.Clients.{Gives, NextIsLine, PeersTurn, passing, all_wait, begun_at}
 use Rattle.el_core.specs.within.Touching.{CoversAll}
 use Rattle.el_core.specs.declared.out.Outs as code
 use Rattle.el_core.proofs.Causes.{nodes_turn}
@@ -91,25 +93,27 @@ begun_stands {G} stands old start left rest e tip stood is still all_told tip_is
       speaker_last = λ q s. absurd (no_some q (sym s ∙ no_speaker));
       surplus_last = λ q s. absurd (no_some q (sym s ∙ no_surplus));
       before = tip_is;
+      desk = stood.desk;
       tellings = tellings_begun start.side stood.start old.touched start.sessions stood.tellings still (stood.set.still still) (none_wait_world start.sessions all_told);
       left_is = stood.left_is;
     }
 
 module _ {G A : Type 0} (of : Ghosts G A) where
   -- a turn of the node's last tip line
-  pub ahead_turned : (old new : State G) (before after : A) (world : World) (left : List Event) (o : code.Outs) → Stands of.ledger.stands old world left
+  pub ahead_turned : {Y : Type 0} (of_relay : relays.Ghosts Y) (y : Y) (old new : State G) (before after : A) (world : World) (left : List Event) (o : code.Outs) → Stands of.ledger.stands old world left
       → (of.files.tells → AllGrow world.side.files (of.files.bytes before)) → (old.ahead ≡ [] → ⊥) → new ≡ record old { ledger = new.ledger; holdings = new.holdings; caches = new.caches; ahead = new.ahead; touched = new.touched }
       → new.holdings.magic ≡ old.holdings.magic
       → ((side : Side) (start : Chain) → IsAt of (beneath old.ledger before) old.holdings old.caches side start → side.found ≡ old.holdings.tree → Answered of (Moving of.files side 0 old.ahead) (serving old before) (serving new after) side start o)
-      → TookTurn of (serving old before) (serving new after) world left (outs_of o)
-  ahead_turned old new before after world left o stood told some same magic turn =
+      → TookTurn (asked_ghosts of of_relay) (lent old before y) (lent new after y) world left (outs_of o)
+  ahead_turned of_relay y old new before after world left o stood told some same magic turn =
       let busy : world.side.ahead ≡ [] → ⊥ = λ e. some (stood.ahead ∙ e) in
-      ahead_step of old new before after world left o
+      ahead_step of of_relay y old new before after world left o
       (record {
         stood = stood;
         answered = subst (λ (ns : List Node). Answered of (Moving of.files world.side 0 ns) (serving old before) (serving new after) world.side stood.start o) stood.ahead
             (turn world.side stood.start (record { stood = stood.chain; set = stood.set; told = told }) (sym stood.found));
         magic = magic;
+        desk = ap (λ (s : State G). s.desk) same;
         clients = ap (λ (s : State G). s.clients) same;
         speaker = ap (λ (s : State G). s.speaker) same;
         surplus = ap (λ (s : State G). s.surplus) same;
@@ -127,16 +131,16 @@ module _ {G A : Type 0} (of : Ghosts G A) where
   }
 
   -- a line of the node: `read` is the state after the line was read
-  pub node_turned : (old read new : State G) (before after : A) (world : World) (left : List Event) (o : code.Outs) (e : LineEvent) → ((k : G) (chain : Chain) → of.ledger.stands k chain → of.ledger.tip k ≡ tip_of chain) → Stands of.ledger.stands old world left
+  pub node_turned : {Y : Type 0} (of_relay : relays.Ghosts Y) (y : Y) (old read new : State G) (before after : A) (world : World) (left : List Event) (o : code.Outs) (e : LineEvent) → ((k : G) (chain : Chain) → of.ledger.stands k chain → of.ledger.tip k ≡ tip_of chain) → Stands of.ledger.stands old world left
       → (of.files.tells → AllGrow world.side.files (of.files.bytes before)) → read.ahead ≡ [] → waiting read.clients ≡ [] → read ≡ record old { node = read.node } → read.node.limit ≡ old.node.limit → Gives old.node e read.node
       → new ≡ record read { ledger = new.ledger; holdings = new.holdings; caches = new.caches; ahead = new.ahead; clients = new.clients; before = new.before; touched = new.touched }
       → new.holdings.magic ≡ read.holdings.magic
       → (new.clients ≡ all_wait read.clients) × (new.before ≡ of.ledger.tip read.ledger)
       → ((side : Side) (start : Chain) → IsAt of (beneath read.ledger before) read.holdings read.caches side start → IsFrom read.holdings side
       → Answered of (OrdersLine of.files side e) (serving (begun_at (of.ledger.tip read.ledger) read) before) (serving new after) side start o)
-      → TookTurn of (serving old before) (serving new after) world left (outs_of o)
+      → TookTurn (asked_ghosts of of_relay) (lent old before y) (lent new after y) world left (outs_of o)
   unfolding begun_stands
-  node_turned old read new before after world left o e tip_is stood told still quiet_all same limit gives then magic begins turn =
+  node_turned of_relay y old read new before after world left o e tip_is stood told still quiet_all same limit gives then magic begins turn =
       let ledger_is : read.ledger ≡ old.ledger = ap (λ (s : State G). s.ledger) same in
       let from = from_side old read world left stood same still in
       let clients_is : read.clients ≡ old.clients = ap (λ (s : State G). s.clients) same in
@@ -146,7 +150,7 @@ module _ {G A : Type 0} (of : Ghosts G A) where
       let began = begun_stands of.ledger.stands old world left n.rest e (of.ledger.tip read.ledger) stood n.first_is from.still all_told tip in
       let a = turn world.side stood.start (record { stood = rw ledger_is stood.chain; set = rw (ap (λ (s : State G). s.holdings) same, ap (λ (s : State G). s.caches) same) stood.set; told = told }) from in
       let node : new.node ≡ read.node = ap (λ (s : State G). s.node) then in
-      node_step of old (begun_at (of.ledger.tip read.ledger) old) new before after world left o e
+      node_step of of_relay y old (begun_at (of.ledger.tip read.ledger) old) new before after world left o e
       (record {
         stood = began;
         answered = record {
@@ -159,6 +163,7 @@ module _ {G A : Type 0} (of : Ghosts G A) where
           covers = subst (λ (cs : List ClientState). CoversAll (all_wait cs) [] a.moved a.changed new.touched) clients_is a.covers;
         };
         magic = magic ∙ ap (λ (s : State G). s.holdings.magic) same;
+        desk = ap (λ (s : State G). s.desk) then ∙ ap (λ (s : State G). s.desk) same;
         clients = begins.0 ∙ ap all_wait clients_is;
         speaker = ap (λ (s : State G). s.speaker) then ∙ ap (λ (s : State G). s.speaker) same;
         surplus = ap (λ (s : State G). s.surplus) then ∙ ap (λ (s : State G). s.surplus) same;
@@ -173,15 +178,16 @@ module _ {G A : Type 0} (of : Ghosts G A) where
   settled old files world left known_files stood told still = record {
     stood = stood.chain;
     set = λ sure. subst (λ (c : Chain). StandsFor old.holdings.pool.entries c world.side.kept) (stood.set.still (sym stood.ahead ∙ still)) (stood.set.stood sure);
+    fees = stood.set.fees;
     computed = λ sure. subst (λ (c : Chain). CachesStand old.caches c world.side.chain) (stood.set.still (sym stood.ahead ∙ still)) (stood.set.computed sure);
     found = stood.found;
     told = told;
   }
 
-  beside : (old new : State G) (world : World) (left : List Event) → LeavesOwn of.ledger → of.ledger.is_live old.ledger → Stands of.ledger.stands old world left
-      → old.ahead ≡ [] → waiting old.clients ≡ [] → HasGivenAll old.node → new ≡ record old { ledger = new.ledger; caches = new.caches; clients = new.clients; speaker = new.speaker; surplus = new.surplus }
-      → Asked of.ledger old.ledger new.ledger → CachesStay of.ledger old.ledger old.caches new.caches → Beside of old new world left
-  beside old new world left own live stood still quiet_all all same asked stays = record {
+  beside : {Y : Type 0} (of_relay : relays.Ghosts Y) (old new : State G) (world : World) (left : List Event) → LeavesOwn of.ledger → of.ledger.is_live old.ledger → Stands of.ledger.stands old world left
+      → old.ahead ≡ [] → waiting old.clients ≡ [] → HasGivenAll old.node → new ≡ record old { ledger = new.ledger; caches = new.caches; desk = new.desk; clients = new.clients; speaker = new.speaker; surplus = new.surplus }
+      → Asked of.ledger old.ledger new.ledger → CachesStay of.ledger old.ledger old.caches new.caches → Beside (asked_ghosts of of_relay) old new world left
+  beside of_relay old new world left own live stood still quiet_all all same asked stays = record {
     stood = stood;
     none_left = none_ordered old.node world.heard stood.ordered stood.node all;
     still = sym stood.ahead ∙ still;
@@ -199,31 +205,31 @@ module _ {G A : Type 0} (of : Ghosts G A) where
   }
 
   -- a turn where the node has nothing left
-  pub peers_turned : (old new : State G) (before after : A) (world : World) (left : List Event) (o : Option code.Outs) → LeavesOwn of.ledger → of.ledger.is_live old.ledger → Stands of.ledger.stands old world left
+  pub peers_turned : {Y : Type 0} (of_relay : relays.Ghosts Y) (y z : Y) (old new : State G) (before after : A) (world : World) (left : List Event) (o : Option code.Outs) → LeavesOwn of.ledger → of.ledger.is_live old.ledger → Stands of.ledger.stands old world left
       → (of.files.tells → AllGrow world.side.files (of.files.bytes before)) → (of.files.tells → AllGrow (of.files.bytes before) (of.files.bytes after)) → old.ahead ≡ [] → waiting old.clients ≡ [] → HasGivenAll old.node
-      → new ≡ record old { ledger = new.ledger; caches = new.caches; clients = new.clients; speaker = new.speaker; surplus = new.surplus } → Asked of.ledger old.ledger new.ledger → CachesStay of.ledger old.ledger old.caches new.caches
-      → ((side : Side) → IsSettled of (beneath old.ledger before) old.holdings old.caches side → PeersTurn of.files.tells side (Lost of (beneath old.ledger before) (beneath new.ledger after)) old o new)
-      → IfSome o (λ out. TookTurn of (serving old before) (serving new after) world left (outs_of out))
-  peers_turned old new before after world left o own live stood told grows still quiet_all all same asked stays turn =
-      peers_step of old new before after world left o (beside old new world left own live stood still quiet_all all same asked stays)
+      → new ≡ record old { ledger = new.ledger; caches = new.caches; desk = new.desk; clients = new.clients; speaker = new.speaker; surplus = new.surplus } → Asked of.ledger old.ledger new.ledger → CachesStay of.ledger old.ledger old.caches new.caches
+      → ((side : Side) → IsSettled of (beneath old.ledger before) old.holdings old.caches side → PeersTurn of.files.tells side (passing (asked_ghosts of of_relay) (asking_of (lent old before y)) (asking_of (lent new after z))) old o new)
+      → IfSome o (λ out. TookTurn (asked_ghosts of of_relay) (lent old before y) (lent new after z) world left (outs_of out))
+  peers_turned of_relay y z old new before after world left o own live stood told grows still quiet_all all same asked stays turn =
+      peers_step (asked_ghosts of of_relay) old new before after y z world left o (beside of_relay old new world left own live stood still quiet_all all same asked stays)
       (λ t. all_grow_more world.side.files (of.files.bytes before) (of.files.bytes after) (told t) (grows t))
       (turn world.side (settled old before world left world.side.files stood told still))
 
   -- what is known of it whatever the side knows of the block files
-  pub peers_any : (old new : State G) (before after : A) (world : World) (left : List Event) (o : Option code.Outs) → Stands of.ledger.stands old world left → old.ahead ≡ []
-      → ((side : Side) → IsSettled of (beneath old.ledger before) old.holdings old.caches side → PeersTurn of.files.tells side (Lost of (beneath old.ledger before) (beneath new.ledger after)) old o new)
-      → PeersTurn of.files.tells (record world.side { files = of.files.bytes before }) (Lost of (beneath old.ledger before) (beneath new.ledger after)) old o new
-  peers_any old new before after world left o stood still turn =
+  pub peers_any : {Y : Type 0} (of_relay : relays.Ghosts Y) (y z : Y) (old new : State G) (before after : A) (world : World) (left : List Event) (o : Option code.Outs) → Stands of.ledger.stands old world left → old.ahead ≡ []
+      → ((side : Side) → IsSettled of (beneath old.ledger before) old.holdings old.caches side → PeersTurn of.files.tells side (passing (asked_ghosts of of_relay) (asking_of (lent old before y)) (asking_of (lent new after z))) old o new)
+      → PeersTurn of.files.tells (record world.side { files = of.files.bytes before }) (passing (asked_ghosts of of_relay) (asking_of (lent old before y)) (asking_of (lent new after z))) old o new
+  peers_any of_relay y z old new before after world left o stood still turn =
       turn (record world.side { files = of.files.bytes before }) (settled old before world left (of.files.bytes before) stood (λ t. all_grow_none (of.files.bytes before)) still)
 
-  pub peers_ended : (old new : State G) (before after : A) (world : World) (left : List Event) (o : Option code.Outs) → LeavesOwn of.ledger → of.ledger.is_live old.ledger → Stands of.ledger.stands old world left
-      → old.ahead ≡ [] → waiting old.clients ≡ [] → HasGivenAll old.node → new ≡ record old { ledger = new.ledger; caches = new.caches; clients = new.clients; speaker = new.speaker; surplus = new.surplus }
+  pub peers_ended : {Y : Type 0} (of_relay : relays.Ghosts Y) (y z : Y) (old new : State G) (before after : A) (world : World) (left : List Event) (o : Option code.Outs) → LeavesOwn of.ledger → of.ledger.is_live old.ledger → Stands of.ledger.stands old world left
+      → old.ahead ≡ [] → waiting old.clients ≡ [] → HasGivenAll old.node → new ≡ record old { ledger = new.ledger; caches = new.caches; desk = new.desk; clients = new.clients; speaker = new.speaker; surplus = new.surplus }
       → Asked of.ledger old.ledger new.ledger → CachesStay of.ledger old.ledger old.caches new.caches
-      → ((side : Side) → IsSettled of (beneath old.ledger before) old.holdings old.caches side → PeersTurn of.files.tells side (Lost of (beneath old.ledger before) (beneath new.ledger after)) old o new)
+      → ((side : Side) → IsSettled of (beneath old.ledger before) old.holdings old.caches side → PeersTurn of.files.tells side (passing (asked_ghosts of of_relay) (asking_of (lent old before y)) (asking_of (lent new after z))) old o new)
       → IfNone o (IsDone of.ledger.stands of.files world left new)
-  peers_ended old new before after world left o own live stood still quiet_all all same asked stays turn =
-      peers_none of _ _ _ old new world left o (beside old new world left own live stood still quiet_all all same asked stays)
-      (peers_any old new before after world left o stood still turn)
+  peers_ended of_relay y z old new before after world left o own live stood still quiet_all all same asked stays turn =
+      peers_none (asked_ghosts of of_relay) _ _ (passing (asked_ghosts of of_relay) (asking_of (lent old before y)) (asking_of (lent new after z))) old new world left o (beside of_relay old new world left own live stood still quiet_all all same asked stays)
+      refl refl (peers_any of_relay y z old new before after world left o stood still turn)
 
 -- no memory for the node's next line: nothing has happened
 pub unread_failed : {G A : Type 0} (of : Ghosts G A) (old new : State G) (files : A) (world : World) (left : List Event) → LeavesOwn of.ledger → of.ledger.is_live old.ledger

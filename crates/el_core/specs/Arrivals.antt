@@ -54,7 +54,7 @@ abbrev pub kept_speaker : ℕ → Option ℕ → Option ℕ
 kept_speaker p None = None
 kept_speaker p (Some q) = if q == p then None else Some q
 
--- a client goes
+-- the server without that client
 abbrev pub gone_from : {G : Type 0} → State G → ℕ → State G
 gone_from s p = record s { clients = kept_clients p s.clients; speaker = kept_speaker p s.speaker }
 

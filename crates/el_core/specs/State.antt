@@ -12,6 +12,8 @@ use Rattle.el_subs.specs.Told as status_told
 use Rattle.el_subs.specs.Told.{status, is_touched, IsTold}
 use Rattle.el_status.specs.Untouched.{LooksSame}
 use Rattle.el_side.specs.declared.caches.Caches.{Caches}
+use Rattle.el_relay.specs.Desk.{DeskState}
+use Rattle.el_replies.specs.Spending.{Asking, asking}
 use Rattle.el_side.specs.declared.holdings.Holdings.{Holdings}
 use Rattle.el_side.specs.Beneath.{Beneath, beneath}
 use Rattle.el_side.specs.NodeSteps.{SetStands}
@@ -29,15 +31,16 @@ pub record ClientState : Type 0 where
   pub session : client.Session
   pub waits : Bool
 
--- the ledger, of some type; what is held beside it; what was computed once; the node's bytes, as a line buffer keeps them; the blocks
--- that its last tip line is still to put in; the clients, in the order in which they came; the one whose
--- bytes came last, until all of its lines are met; a client too many that isn't closed yet; the tip before
--- the node's last line; and the script hashes that this line touched so far, of those to which clients
--- subscribe
+-- the ledger, of some type; what is held beside it; what was computed once; what the desk of broadcasts
+-- keeps; the node's bytes, as a line buffer keeps them; the blocks that its last tip line is still to put in;
+-- the clients, in the order in which they came; the one whose bytes came last, until all of its lines are
+-- met; a client too many that isn't closed yet; the tip before the node's last line; and the script hashes
+-- that this line touched so far, of those to which clients subscribe
 pub record State (G : Type 0) : Type 0 where
   pub ledger : G
   pub holdings : Holdings
   pub caches : Caches
+  pub desk : DeskState
   pub node : LineState
   pub ahead : List Node
   pub clients : List ClientState
@@ -55,6 +58,20 @@ pub record Serving (G A : Type 0) : Type 0 where
 abbrev pub serving : {G A : Type 0} → State G → A → Serving G A
 serving server files = record { server = server; files = files }
 
+-- the server, and the block files and the relay that it is lent, at some moment
+pub record Lent (G A Y : Type 0) : Type 0 where
+  pub server : State G
+  pub files : A
+  pub relay : Y
+
+-- these three, as they are at some moment
+abbrev pub lent : {G A Y : Type 0} → State G → A → Y → Lent G A Y
+lent server files relay = record { server = server; files = files; relay = relay }
+
+-- what is asked for clients' lines
+abbrev pub asking_of : {G A Y : Type 0} → Lent G A Y → Asking G A Y
+asking_of now = asking now.server.ledger now.files now.relay now.server.desk
+
 -- what the server asks below it
 abbrev pub beneath_of : {G A : Type 0} → Serving G A → Beneath G A
 beneath_of now = beneath now.server.ledger now.files
@@ -68,7 +85,7 @@ pub record IsHeardOut (c : ClientState) : Type 0 where
   pub given_all : HasGivenAll c.buffer
   pub kept : c.lost ≡ false
 
--- nor of one that isn't there
+-- nothing is left to do of the client, if there is one
 abbrev pub HasNoWork : Option ClientState → Type 0
 HasNoWork None = Unit {0}
 HasNoWork (Some c) = IsHeardOut c
@@ -92,12 +109,12 @@ pub record IsIdle {G : Type 0} (s : State G) : Type 0 where
   pub speaker : s.speaker ≡ None
   pub surplus : s.surplus ≡ None
 
--- a line takes at least one byte, and the closing comes last
+-- How many turns a client may still take at most: a line takes at least one byte, and the closing comes last.
 abbrev pub work_of_client : Option ClientState → ℕ
 work_of_client None = 0
 work_of_client (Some c) = held c.buffer + 1
 
--- of all of these
+-- how many turns all of these may still take at most
 abbrev pub work_of_clients : List ClientState → ℕ
 work_of_clients [] = 0
 work_of_clients (c ∷ cs) = work_of_client (Some c) + work_of_clients cs
@@ -165,7 +182,7 @@ pub record IsSession (speaker : Option ℕ) (left : List Event) (c : ClientState
   pub met : (speaker ≡ Some c.peer → ⊥) → IsMet c x.heard
   pub speaks : speaker ≡ Some c.peer → HearsLeft c x.heard left
 
--- their numbers rise
+-- the numbers of the sessions' peers rise
 abbrev pub Rising : List Session → Type 0
 Rising [] = ⊤
 Rising (x ∷ xs) = AllByRecursion (λ (y : Session). x.peer < y.peer) xs × Rising xs
@@ -235,5 +252,6 @@ pub record Stands {G : Type 0} (stands : G → Chain → Type 0) (s : State G) (
   pub speaker_last : (p : ℕ) → s.speaker ≡ Some p → (ordered ≡ []) × NoneWaits world.sessions
   pub surplus_last : (p : ℕ) → s.surplus ≡ Some p → (ordered ≡ []) × NoneWaits world.sessions
   pub before : IsSure world.side → s.before ≡ world.before
+  pub desk : s.desk ≡ world.desk
   pub tellings : Tellings world.side start s.touched world.sessions
   pub left_is : left ≡ ordered ++ said

@@ -10,6 +10,7 @@ use Rattle.el_chain.specs.Chains.{Chain}
 use Rattle.el_model.specs.LedgerCalls.{Moved}
 use Rattle.el_lines.specs.Lines.{line}
 use Rattle.el_side.specs.Beneath.{Beneath, Ghosts, Lost}
+use Rattle.el_replies.specs.Spending.{AskedGhosts, Did}
 use Rattle.el_side.specs.Side.{IsSure}
 use Rattle.el_subs.specs.Told as status_told
 use Rattle.el_subs.specs.Told.{status}
@@ -17,7 +18,7 @@ use Rattle.el_world.specs.Flights.{IsMoveOf}
 use Rattle.el_world.specs.World as model
 use Rattle.el_world.specs.World.{World, Session, Event, says, is_client, IsStill, AllTold, next_told, closes_long}
 use Rattle.el_world.specs.Run.{Turns, OneTurn, Closes, Stop, by_disk, by_memory, Stops, disk_failed, sift_failed, no_memory, untold, unsent}
-use Rattle.el_core.specs.State.{State, ClientState, Serving, Stands, beneath_of}
+use Rattle.el_core.specs.State.{State, ClientState, Lent, Stands, asking_of}
 use Rattle.el_model.specs.declared.fault.QueryFault.{QueryFault}
 use Rattle.el_model.specs.declared.fault.QueryFault.TheVariants as fault
 use Rattle.el_sync.specs.Steps.{StopsAt}
@@ -59,20 +60,20 @@ GoesTo next surplus closing m =
     (m.peer ≡ 0) ⊎ (((is_client m.peer next ≡ true) ⊎ Closes closing m.peer) × (surplus ≡ None))
 
 -- The server made one turn, and stands for what the turn left.
-pub record TookTurn {G A : Type 0} (of : Ghosts G A) (was now : Serving G A) (world : World)
+pub record TookTurn {G A Y : Type 0} (of : AskedGhosts G A Y) (was now : Lent G A Y) (world : World)
     (left : List Event) (outs : model.Outs) : Type 0 where
   pub done : List Event
   pub rest : List Event
   pub losses : List Deed
   pub next : World
   pub whole : left ≡ done ++ rest
-  pub turn : OneTurn of.files world done outs losses next
-  pub stood : Stands of.ledger.stands now.server next rest
+  pub turn : OneTurn of.beneath.files world done outs losses next
+  pub stood : Stands of.beneath.ledger.stands now.server next rest
   pub moved : IsSure world.side
-      → Moved of.ledger was.server.ledger now.server.ledger world.side.chain next.side.chain
-  pub told : of.files.tells → AllGrow next.side.files (of.files.bytes now.files)
+      → Moved of.beneath.ledger was.server.ledger now.server.ledger world.side.chain next.side.chain
+  pub told : of.beneath.files.tells → AllGrow next.side.files (of.beneath.files.bytes now.files)
   pub sends_to : AllByRecursion (GoesTo next now.server.surplus outs.closing) outs.messages
-  pub rose : Lost of (beneath_of was) (beneath_of now) losses
+  pub did : Did of (asking_of was) (asking_of now) losses
 
 -- No event is left, but perhaps lines of a client that is closed, which have no effect. Everyone was told of
 -- the node's last line, and of each subscription the status that was told last is its status, where the side

@@ -4,26 +4,32 @@ ghost use Rattle.std.specs.List.{AllByRecursion};
 ghost use Rattle.std.specs.Map.{keys_of};
 ghost use Rattle.el_outside.specs.Counts.{CountsOnly};
 ghost use Rattle.el_outside.specs.Files.{AllGrow};
+ghost use Rattle.el_chain.specs.Chains.{Chain};
+ghost use Rattle.el_json.specs.Lines.{line_says};
 ghost use Rattle.el_model.specs.LedgerCalls.{Asked};
 ghost use Rattle.el_subs.specs.Notices.{notices, IsNotice};
 ghost use Rattle.el_subs.specs.Told.{status};
-ghost use Rattle.el_side.specs.Beneath.{Lost, beneath, ghosts};
+ghost use Rattle.el_replies.specs.Spending.{asked_ghosts, asking};
+ghost use Rattle.el_side.specs.Beneath.{beneath, ghosts};
 ghost use Rattle.el_side.specs.Side.{Side, IsSure};
 ghost use Rattle.el_world.specs.World.{StaysSubscribed, line_limit, new_client, outs_of_reply, reply_to};
 ghost use Rattle.el_lines.specs.LineStates.{as_listed, held};
 ghost use Rattle.el_sessions.specs.Sessions.{Edits};
+ghost use Rattle.el_replies.specs.RowBounds.{LineReads, ReadsWithin};
 ghost use Rattle.el_core.specs.State.{HasGivenAll, HasNoWork, IsHeardOut, work_of_client};
 ghost use Rattle.el_core.specs.Turn.{messages_of, outs_of};
-ghost use Rattle.el_side.specs.Caching.{CachesStay};
+ghost use Rattle.el_side.specs.Caching.{CachesStand, CachesStay};
 ghost use Rattle.el_side.specs.NodeSteps.{IsSettled};
-ghost use Rattle.el_core.specs.within.Clients.{IsFresh, Keeps, Gives, NextIsLine, LineAnswered, Answers, ClientTurn, IsToTell, left_if, told_client};
+ghost use Rattle.el_core.specs.within.Clients.{IsFresh, Keeps, Gives, NextIsLine, LineAnswered, Answers, ClientTurn, IsToTell, passing, left_if, told_client};
+ghost use Rattle.el_core.specs.within.RowBounds.{ClientReads, EventReads};
 
 use crate::out::Outs;
 use el_base::{Bytes, Hash32, Listed, OutOfMemory};
 use el_chain::Touched;
 use el_lines::{AnswerRoom, LINE_LIMIT, LineBuffer, LineEvent};
 use el_model::{Ledger, QueryFault};
-use el_outside::{Archive, Peer, Why};
+use el_outside::{Archive, Peer, Relay, Why};
+use el_relay::Desk;
 use el_replies::{LineReply, reply_line};
 use el_sessions::{Session, Subs};
 use el_side::{Caches, Holdings};
@@ -130,6 +136,7 @@ impl Client {
         before: &Option<Hash32>,
     ) -> Result<Vec<Bytes>, QueryFault>
         requires live { G.is_live ledger.old }
+
         ensures told { (side : Side) → IsSure side
             → IsToTell G.stands ledger.old holdings.now touched.now side self.old
             → IfOk result (λ lines. lines.items
@@ -139,14 +146,16 @@ impl Client {
             → OnOk result (self.new ≡ told_client side self.old) }
         // Whatever the ledger and the set stand for.
         ensures notices { IfOk result (λ lines. AllByRecursion IsNotice lines.items) }
+        ensures done { OnOk result (self.new.waits ≡ false) }
+
         ensures stays { StaysSubscribed self.old.session self.new.session }
         ensures only { OnOk result
             (self.new ≡ record self.old { session = self.new.session; waits = false }) }
-        ensures done { OnOk result (self.new.waits ≡ false) }
         ensures bytes { self.new.buffer ≡ self.old.buffer }
         ensures peer { self.new.peer ≡ self.old.peer }
         ensures keys { keys_of self.new.session.subs ≡ keys_of self.old.session.subs }
         ensures quiet { Asked ⟦<G as Ledger>⟧ ledger.old ledger.new }
+
         ensures cause { CountsOnly (G.faults ledger.old) (G.faults ledger.new) QueryFault.DiskFailed result }
     {
         let lines = notify(
@@ -263,12 +272,14 @@ fn replying(alloc: Global, room: Vec<(Peer, Bytes)>, p: Peer, reply: LineReply) 
 // What a client gets for a line, and whether it stays. The room for the message is taken before the line is
 // looked at: where there is none, nothing was asked.
 #[tactic(auto, using(el_sessions::proofs::Subscribing::edits_same))]
-fn answer_line<G: Ledger, A: Archive>(
+fn answer_line<G: Ledger, A: Archive, Y: Relay>(
     alloc: Global,
     ledger: &mut G,
     archive: &mut A,
     holdings: &Holdings,
     caches: &mut Caches,
+    desk: &mut Desk,
+    relay: &mut Y,
     client: &mut Client,
     line: &[u8],
 ) -> (Outs, bool)
@@ -276,15 +287,20 @@ fn answer_line<G: Ledger, A: Archive>(
     ensures answered { let of = ghosts ⟦<G as Ledger>⟧ ⟦<A as Archive>⟧ in
         let was = beneath ledger.old archive.old in (side : Side)
         → IsSettled of was holdings.now caches.old side
-        → LineAnswered A.tells side (Lost of was (beneath ledger.new archive.new))
+        → LineAnswered A.tells side (passing (asked_ghosts of ⟦<Y as Relay>⟧)
+        (asking ledger.old archive.old relay.old desk.old) (asking ledger.new archive.new relay.new desk.new))
         client.old.peer line.now client.old.session client.new.session (outs_of result.0) result.1 }
     ensures quiet { Asked ⟦<G as Ledger>⟧ ledger.old ledger.new }
     ensures caches { CachesStay ⟦<G as Ledger>⟧ ledger.old caches.old caches.new }
     ensures keeps { A.tells → AllGrow (A.bytes archive.old) (A.bytes archive.new) }
     ensures disk_more { G.faults ledger.old ≤ G.faults ledger.new }
     ensures archive_more { A.faults archive.old ≤ A.faults archive.new }
+    ensures relay_more { Y.faults relay.old ≤ Y.faults relay.new }
     ensures same { client.new ≡ record client.old { session = client.new.session } }
     ensures edits { Edits client.old.session.subs client.new.session.subs }
+    ensures rows { (chain : Chain) → G.stands ledger.old chain → CachesStand caches.old chain chain
+        → ReadsWithin (LineReads chain (G.buckets ledger.old) (line_says line.now))
+        (G.reads ledger.old) (G.reads ledger.new) }
 {
     let peer = client.peer();
     let Ok(room) = room_for_one(alloc) else {
@@ -297,6 +313,8 @@ fn answer_line<G: Ledger, A: Archive>(
         holdings,
         caches,
         &mut client.session,
+        desk,
+        relay,
         line,
     ) {
         Ok(reply) => {
@@ -310,12 +328,14 @@ fn answer_line<G: Ledger, A: Archive>(
 // What a client gets for what was met in its bytes: the reply to a line, or its closing; and whether it
 // stays.
 #[tactic(auto, using(el_sessions::proofs::Subscribing::edits_same))]
-fn answer<G: Ledger, A: Archive>(
+fn answer<G: Ledger, A: Archive, Y: Relay>(
     alloc: Global,
     ledger: &mut G,
     archive: &mut A,
     holdings: &Holdings,
     caches: &mut Caches,
+    desk: &mut Desk,
+    relay: &mut Y,
     client: &mut Client,
     met: LineEvent,
 ) -> (Outs, bool)
@@ -323,15 +343,20 @@ fn answer<G: Ledger, A: Archive>(
     ensures answers { let of = ghosts ⟦<G as Ledger>⟧ ⟦<A as Archive>⟧ in
         let was = beneath ledger.old archive.old in (side : Side)
         → IsSettled of was holdings.now caches.old side
-        → Answers A.tells side (Lost of was (beneath ledger.new archive.new))
+        → Answers A.tells side (passing (asked_ghosts of ⟦<Y as Relay>⟧)
+        (asking ledger.old archive.old relay.old desk.old) (asking ledger.new archive.new relay.new desk.new))
         client.old.peer met client.old.session client.new.session (outs_of result.0) result.1 }
     ensures quiet { Asked ⟦<G as Ledger>⟧ ledger.old ledger.new }
     ensures caches { CachesStay ⟦<G as Ledger>⟧ ledger.old caches.old caches.new }
     ensures keeps { A.tells → AllGrow (A.bytes archive.old) (A.bytes archive.new) }
     ensures disk_more { G.faults ledger.old ≤ G.faults ledger.new }
     ensures archive_more { A.faults archive.old ≤ A.faults archive.new }
+    ensures relay_more { Y.faults relay.old ≤ Y.faults relay.new }
     ensures same { client.new ≡ record client.old { session = client.new.session } }
     ensures edits { Edits client.old.session.subs client.new.session.subs }
+    ensures rows { (chain : Chain) → G.stands ledger.old chain → CachesStand caches.old chain chain
+        → ReadsWithin (EventReads chain (G.buckets ledger.old) met)
+        (G.reads ledger.old) (G.reads ledger.new) }
 {
     match met {
         LineEvent::TooLong { limit: _ } => {
@@ -345,6 +370,8 @@ fn answer<G: Ledger, A: Archive>(
                 archive,
                 holdings,
                 caches,
+                desk,
+                relay,
                 client,
                 line.as_slice(),
             )
@@ -355,33 +382,44 @@ fn answer<G: Ledger, A: Archive>(
 /// One turn of a client: the reply to its next line, its closing, or nothing where no whole line is left; and
 /// whether the client stays.
 #[tactic(auto, using(el_sessions::proofs::Subscribing::edits_same))]
-pub fn client_turn<G: Ledger, A: Archive>(
+pub fn client_turn<G: Ledger, A: Archive, Y: Relay>(
     alloc: Global,
     ledger: &mut G,
     archive: &mut A,
     holdings: &Holdings,
     caches: &mut Caches,
+    desk: &mut Desk,
+    relay: &mut Y,
     client: &mut Client,
 ) -> (Option<Outs>, bool)
     requires live { G.is_live ledger.old }
+
     ensures turn { let of = ghosts ⟦<G as Ledger>⟧ ⟦<A as Archive>⟧ in
         let was = beneath ledger.old archive.old in (side : Side)
         → IsSettled of was holdings.now caches.old side
-        → ClientTurn A.tells side (Lost of was (beneath ledger.new archive.new))
+        → ClientTurn A.tells side (passing (asked_ghosts of ⟦<Y as Relay>⟧)
+        (asking ledger.old archive.old relay.old desk.old) (asking ledger.new archive.new relay.new desk.new))
         client.old result.0 (left_if result.1 client.new) }
+    ensures less { OnSome result.0 (work_of_client (left_if result.1 client.new)
+        < work_of_client (Some client.old)) }
+    ensures done { IfNone result.0 (HasNoWork (left_if result.1 client.new)) }
+
     ensures quiet { Asked ⟦<G as Ledger>⟧ ledger.old ledger.new }
     ensures caches { CachesStay ⟦<G as Ledger>⟧ ledger.old caches.old caches.new }
     ensures keeps { A.tells → AllGrow (A.bytes archive.old) (A.bytes archive.new) }
     ensures still { IfNone result.0 ((G.faults ledger.new ≡ G.faults ledger.old)
-        × (A.faults archive.new ≡ A.faults archive.old)) }
+        × (A.faults archive.new ≡ A.faults archive.old) × (relay.new ≡ relay.old)) }
     ensures disk_more { G.faults ledger.old ≤ G.faults ledger.new }
     ensures archive_more { A.faults archive.old ≤ A.faults archive.new }
-    ensures less { OnSome result.0 (work_of_client (left_if result.1 client.new)
-        < work_of_client (Some client.old)) }
-    ensures done { IfNone result.0 (HasNoWork (left_if result.1 client.new)) }
+    ensures relay_more { Y.faults relay.old ≤ Y.faults relay.new }
     ensures same { (client.new.peer ≡ client.old.peer) × (client.new.waits ≡ client.old.waits) }
     ensures edits { Edits client.old.session.subs client.new.session.subs }
     ensures idle { IfNone result.0 ((client.new ≡ client.old) × (result.1 ≡ true)) }
+
+    // How many rows are read: at most those of the calls that its next line asks for, each once.
+    ensures rows { (chain : Chain) → G.stands ledger.old chain → CachesStand caches.old chain chain
+        → ReadsWithin (ClientReads chain (G.buckets ledger.old) client.old)
+        (G.reads ledger.old) (G.reads ledger.new) }
 {
     let peer = client.peer();
     if client.is_lost() {
@@ -391,7 +429,9 @@ pub fn client_turn<G: Ledger, A: Archive>(
         Err(_) => (Some(closing(alloc, peer, Why::Memory)), false),
         Ok(None) => (None, true),
         Ok(Some(met)) => {
-            let (outs, stays) = answer(alloc, ledger, archive, holdings, caches, client, met);
+            let (outs, stays) = answer(
+                alloc, ledger, archive, holdings, caches, desk, relay, client, met,
+            );
             (Some(outs), stays)
         }
     }

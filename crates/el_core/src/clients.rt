@@ -1,15 +1,20 @@
 // The clients, by rising number.
-ghost use Rattle.std.specs.Prelude.{◌≡◌, ◌<◌, ◌≤◌, [], ◌∷◌, ◌++◌, None, OnOk, OnErr, IfSome, IfNone, length, true, false};
+ghost use Rattle.std.specs.Prelude.{◌≡◌, ◌<◌, ◌≤◌, [], ◌∷◌, ◌++◌, None, Some, OnOk, OnErr, IfSome, IfNone, length, slice_get, true, false};
 ghost use Rattle.el_outside.specs.Counts.{RoseBy};
 ghost use Rattle.el_outside.specs.Files.{AllGrow};
+ghost use Rattle.el_chain.specs.Chains.{Chain};
+ghost use Rattle.el_replies.specs.RowBounds.{ReadsWithin};
 ghost use Rattle.el_model.specs.LedgerCalls.{Asked};
-ghost use Rattle.el_side.specs.Beneath.{Lost, beneath, ghosts};
+ghost use Rattle.el_replies.specs.Spending.{asked_ghosts, asking};
+ghost use Rattle.el_side.specs.Beneath.{beneath, ghosts};
 ghost use Rattle.el_side.specs.Side.{Side};
 ghost use Rattle.el_core.specs.Arrivals.{kept_clients};
-ghost use Rattle.el_side.specs.Caching.{CachesStay};
+ghost use Rattle.el_side.specs.Caching.{CachesStand, CachesStay};
 ghost use Rattle.el_side.specs.NodeSteps.{IsSettled};
 ghost use Rattle.el_core.specs.Turn.{outs_of};
-ghost use Rattle.el_core.specs.within.Clients.{IsPlace, IsFirstWaiting, HearsAt, ClientTurn, TurnsAt, IsToTell, TellTurn, TellsAt, all_wait, replaced};
+ghost use Rattle.el_core.specs.within.Clients.{IsPlace, IsFirstWaiting, HearsAt, ClientTurn, TurnsAt, passing, IsToTell, TellTurn, TellsAt, all_wait, replaced};
+ghost use Rattle.el_core.specs.State.{ClientState};
+ghost use Rattle.el_core.specs.within.RowBounds.{ClientReads};
 ghost use Rattle.el_core.specs.within.Touching.{is_held};
 ghost use Rattle.el_core.specs.within.Watching.{Counts, CountsFew, HasMore};
 
@@ -20,7 +25,8 @@ use crate::watching::Watched;
 use el_base::{Hash32, OutOfMemory};
 use el_chain::Touched;
 use el_model::Ledger;
-use el_outside::{Archive, Peer, Why};
+use el_outside::{Archive, Peer, Relay, Why};
+use el_relay::Desk;
 use el_side::{Caches, Holdings};
 use std::alloc::Global;
 use std::marker::Model;
@@ -180,29 +186,40 @@ impl Clients {
 
     /// A turn of the client at that place, which is gone where it was closed. It is closed as out of memory
     /// where there is none to count what it has then subscribed to.
-    pub fn turn<G: Ledger, A: Archive>(
+    pub fn turn<G: Ledger, A: Archive, Y: Relay>(
         &mut self,
         alloc: Global,
         ledger: &mut G,
         archive: &mut A,
         holdings: &Holdings,
         caches: &mut Caches,
+        desk: &mut Desk,
+        relay: &mut Y,
         i: usize,
     ) -> (Option<Outs>, bool)
         requires inside { i < length self.old }
         requires live { G.is_live ledger.old }
+
         ensures turn { let of = ghosts ⟦<G as Ledger>⟧ ⟦<A as Archive>⟧ in
             let was = beneath ledger.old archive.old in TurnsAt (λ c left. (side : Side)
             → IsSettled of was holdings.now caches.old side
-            → ClientTurn A.tells side (Lost of was (beneath ledger.new archive.new)) c result.0 left)
+            → ClientTurn A.tells side (passing (asked_ghosts of ⟦<Y as Relay>⟧)
+            (asking ledger.old archive.old relay.old desk.old) (asking ledger.new archive.new relay.new desk.new)) c result.0 left)
             i self.old result.0 result.1 self.new }
+
         ensures quiet { Asked ⟦<G as Ledger>⟧ ledger.old ledger.new }
         ensures caches { CachesStay ⟦<G as Ledger>⟧ ledger.old caches.old caches.new }
         ensures keeps { A.tells → AllGrow (A.bytes archive.old) (A.bytes archive.new) }
         ensures still { IfNone result.0 ((G.faults ledger.new ≡ G.faults ledger.old)
-            × (A.faults archive.new ≡ A.faults archive.old)) }
+            × (A.faults archive.new ≡ A.faults archive.old) × (relay.new ≡ relay.old)) }
         ensures disk_more { G.faults ledger.old ≤ G.faults ledger.new }
         ensures archive_more { A.faults archive.old ≤ A.faults archive.new }
+        ensures relay_more { Y.faults relay.old ≤ Y.faults relay.new }
+
+        ensures rows { (chain : Chain) (c : ClientState) → G.stands ledger.old chain
+            → CachesStand caches.old chain chain → slice_get self.old i ≡ Some c
+            → ReadsWithin (ClientReads chain (G.buckets ledger.old) c)
+            (G.reads ledger.old) (G.reads ledger.new) }
     {
         let peer = self.list[i].peer();
         let known = self.list[i].subs().held();
@@ -212,6 +229,8 @@ impl Clients {
             archive,
             holdings,
             caches,
+            desk,
+            relay,
             &mut self.list[i],
         );
         let Some(outs) = outs else {
@@ -239,10 +258,12 @@ impl Clients {
     ) -> Outs
         requires inside { i < length self.old }
         requires live { G.is_live ledger.old }
+
         ensures turn { TellsAt (λ c left. (side : Side)
             → IsToTell G.stands ledger.old holdings.now touched.now side c
             → TellTurn side before.now (λ n. RoseBy (G.faults ledger.old) (G.faults ledger.new) n)
             c (outs_of result) left) i self.old self.new }
+
         ensures quiet { Asked ⟦<G as Ledger>⟧ ledger.old ledger.new }
         ensures disk_more { G.faults ledger.old ≤ G.faults ledger.new }
     {

@@ -4,12 +4,17 @@ ghost use Rattle.el_outside.specs.Counts.{RoseBy};
 ghost use Rattle.el_outside.specs.Files.{AllGrow};
 ghost use Rattle.el_chain.specs.declared.moves.Plan as moves;
 ghost use Rattle.el_chain.specs.Chains.{Chain};
+ghost use Rattle.el_fees.specs.Tables.{IsTableOf};
 ghost use Rattle.el_side.specs.UnderWay.{IsFirstMove};
 ghost use Rattle.el_model.specs.LedgerCalls.{Asked, KeepsBeside};
 ghost use Rattle.el_model.specs.declared.fault.QueryFault.TheVariants as turn_fault;
-ghost use Rattle.el_lines.specs.Lines.{too_long};
+ghost use Rattle.el_json.specs.Lines.{line_says};
+ghost use Rattle.el_lines.specs.Lines.{line, too_long};
+ghost use Rattle.el_replies.specs.RowBounds.{LineReads, ReadsWithin};
 ghost use Rattle.el_side.specs.Caching.{CachesStand, CachesStay};
-ghost use Rattle.el_side.specs.Beneath.{Lost, beneath, ghosts};
+ghost use Rattle.el_relay.specs.Desk.{empty_desk};
+ghost use Rattle.el_replies.specs.Spending.{asked_ghosts};
+ghost use Rattle.el_side.specs.Beneath.{beneath, ghosts};
 ghost use Rattle.el_side.specs.NodeSteps.{IsAt, IsSettled};
 ghost use Rattle.el_side.specs.Plans.{plan_of};
 ghost use Rattle.el_world.specs.Run.{MayStarve};
@@ -17,11 +22,12 @@ ghost use Rattle.el_side.specs.Side.{Side, IsSure, Moving, OrdersLine};
 ghost use Rattle.el_world.specs.World.{World, Event, joins, says, is_client, IsStill, AllTold, initial_world, without_client, reply_to};
 ghost use Rattle.el_lines.specs.LineStates.{as_listed, held};
 ghost use Rattle.el_sync.specs.Steps.{Fails, IsFrom, StopsAt};
-ghost use Rattle.el_core.specs.State.{AreUpTo, IsIdle, Stands, HasGivenAll, beneath_of, serving, waiting, work, work_of_peers};
+ghost use Rattle.el_core.specs.State.{AreUpTo, IsIdle, Stands, HasGivenAll, asking_of, beneath_of, lent, serving, waiting, work, work_of_peers};
 ghost use Rattle.el_core.specs.Arrivals.{TookArrival, IsAbove, IsUpTo, with_all_bytes, gone_from};
 ghost use Rattle.el_core.specs.Turn.{TookTurn, TurnFailed, IsDone, HasLost, MeetsLine, WaitsToBeTold, ClosesLong, outs_of};
 ghost use Rattle.el_core.specs.within.Answering.{Answered, NodeKeeps};
-ghost use Rattle.el_core.specs.within.Clients.{Hears, Opens, Gives, NextIsLine, IsFirstWaiting, SpeakerSteps, PeersTurn, IsToTell, TellTurn, TellsAt, all_wait, begun_at};
+ghost use Rattle.el_core.specs.within.RowBounds.{SpeakerReads};
+ghost use Rattle.el_core.specs.within.Clients.{Hears, Opens, Gives, NextIsLine, IsFirstWaiting, SpeakerSteps, PeersTurn, passing, IsToTell, TellTurn, TellsAt, all_wait, begun_at};
 
 use crate::client::{Client, closing, rooms_for_one, sending_in};
 use crate::clients::Clients;
@@ -31,7 +37,8 @@ use el_base::{Hash32, OutOfMemory};
 use el_chain::Touched;
 use el_lines::{LineBuffer, LineEvent, NODE_LINE_LIMIT, answer_text};
 use el_model::Ledger;
-use el_outside::{Archive, Arrival, CLIENT_LIMIT, Pace, Peer, Why};
+use el_outside::{Archive, Arrival, CLIENT_LIMIT, Pace, Peer, Relay, Why};
+use el_relay::Desk;
 use el_side::{Caches, Holdings};
 use el_sync::{Ahead, StepFault, move_next, order};
 use std::alloc::Global;
@@ -40,10 +47,10 @@ use std::mem;
 use std::thread::Threads;
 
 /// The server's state: the ledger that it answers from, the headers that were found and the unconfirmed set,
-/// what was computed once of the chain, the node's bytes and what its last tip line is still to do, its
-/// clients, which of them speaks, a client too many that isn't closed yet, and for the telling of clients the
-/// tip before the node's last line and what this line touched. Contracts see it as a `State`, which stands for
-/// a `World`.
+/// what was computed once of the chain, the desk of broadcasts, the node's bytes and what its last tip line
+/// is still to do, its clients, which of them speaks, a client too many that isn't closed yet, and for the
+/// telling of clients the tip before the node's last line and what this line touched. Contracts see it as a
+/// `State`, which stands for a `World`.
 ///
 /// An arrival is taken by `take`; then `turn` is called until it answers None, and only then the next arrival
 /// is taken. What a turn gives is sent and closed before the next turn, and a client to whom a message can't
@@ -54,6 +61,7 @@ pub struct Server<G: Ledger> {
     ledger: G,
     holdings: Holdings,
     caches: Caches,
+    desk: Desk,
     node: LineBuffer,
     ahead: Ahead,
     clients: Clients,
@@ -78,6 +86,7 @@ impl<G: Ledger> Model for Server<G> {
       ledger = s.ledger;
       holdings = s.holdings;
       caches = s.caches;
+      desk = s.desk;
       node = s.node.state;
       ahead = s.ahead;
       clients = s.clients;
@@ -92,15 +101,23 @@ impl<G: Ledger> Model for Server<G> {
 }
 
 impl<G: Ledger> Server<G> {
-    /// A server without clients, whose node has said nothing, so that nothing unconfirmed is kept. Takes no
-    /// memory.
-    pub fn new(alloc: Global, ledger: G, holdings: Holdings, caches: Caches) -> Server<G>
+    /// A server without clients, whose node has said nothing, so that nothing unconfirmed is kept, with a new
+    /// desk of broadcasts. Takes no memory.
+    pub fn new(
+        alloc: Global,
+        ledger: G,
+        holdings: Holdings,
+        caches: Caches,
+        desk: Desk,
+    ) -> Server<G>
         requires live { G.is_live ledger }
+
         ensures ledger { result.ledger ≡ ledger }
-        ensures stands { (sure : Bool) (chain : Chain) (files : ℕ → List ℕ)
+        ensures stands { (sure relays : Bool) (chain : Chain) (files : ℕ → List ℕ)
             → (sure ≡ true → G.stands ledger chain) → (sure ≡ true → CachesStand caches chain chain)
-            → holdings.pool.entries ≡ [] → Stands G.stands result
-            (initial_world sure chain holdings.magic holdings.pool.limits holdings.tree files) [] }
+            → holdings.pool.entries ≡ [] → IsTableOf holdings.fees [] → desk ≡ empty_desk relays
+            → Stands G.stands result
+            (initial_world sure chain holdings.magic holdings.pool.limits holdings.tree files relays) [] }
         ensures idle { IsIdle result }
         ensures clients { result.clients ≡ [] }
     {
@@ -109,6 +126,7 @@ impl<G: Ledger> Server<G> {
             ledger,
             holdings,
             caches,
+            desk,
             node: LineBuffer::new(alloc, NODE_LINE_LIMIT),
             ahead: Ahead::none(alloc),
             clients: Clients::new(alloc),
@@ -128,6 +146,7 @@ impl<G: Ledger> Server<G> {
             ledger,
             holdings: _,
             caches: _,
+            desk: _,
             node: _,
             ahead: _,
             clients: _,
@@ -149,13 +168,16 @@ impl<G: Ledger> Server<G> {
         requires idle { IsIdle self.old }
         // Who comes has a greater number than each client.
         requires new { (last : ℕ) × AreUpTo last self.old.clients × IsAbove last arrival }
+
         ensures taken { (world : World) → Stands G.stands self.old world []
             → OnOk result (TookArrival G.stands (with_all_bytes arrival bytes.now) world self.new) }
+
         ensures refused { OnErr result (self.new ≡ self.old) }
-        ensures memory { OnErr result (MayStarve (with_all_bytes arrival bytes.now)) }
         ensures ledger { self.new.ledger ≡ self.old.ledger }
         ensures numbers { (last now : ℕ) → last ≤ now → AreUpTo last self.old.clients → IsUpTo now arrival
             → OnOk result (AreUpTo now self.new.clients) }
+
+        ensures memory { OnErr result (MayStarve (with_all_bytes arrival bytes.now)) }
     {
         match arrival {
             Arrival::Opened(p) => self.open(p)?,
@@ -206,6 +228,7 @@ impl<G: Ledger> Server<G> {
         // What is left of its lines has no effect.
         ensures stands { self.old.surplus ≡ None → (world : World) (rest : List Event)
             → Stands G.stands self.old world rest → Stands G.stands self.new (without_client p world) rest }
+
         ensures no_more { work self.new ≤ work self.old }
         ensures numbers { (last : ℕ) → AreUpTo last self.old.clients → AreUpTo last self.new.clients }
     {
@@ -370,8 +393,9 @@ impl<G: Ledger> Server<G> {
         }
     }
 
-    // The telling of the client at that place, the first that waits. The block files aren't read.
-    fn turn_tell<A: Archive>(&mut self, i: usize, archive: &A) -> Outs
+    // The telling of the client at that place, the first that waits. The block files aren't read, and the
+    // relay isn't asked.
+    fn turn_tell<A: Archive, Y: Relay>(&mut self, i: usize, archive: &A, relay: &Y) -> Outs
         requires live { G.is_live self.old.ledger }
         requires inside { i < length self.old.clients }
         requires still { self.old.ahead ≡ [] }
@@ -379,8 +403,9 @@ impl<G: Ledger> Server<G> {
         // The turn is the telling of the next client, as `Run` allows it.
         ensures step { (world : World) (left : List Event) → Stands G.stands self.old world left
             → (A.tells → AllGrow world.side.files (A.bytes archive.now))
-            → TookTurn (ghosts ⟦<G as Ledger>⟧ ⟦<A as Archive>⟧) (serving self.old archive.now)
-            (serving self.new archive.now) world left (outs_of result) }
+            → TookTurn (asked_ghosts (ghosts ⟦<G as Ledger>⟧ ⟦<A as Archive>⟧) ⟦<Y as Relay>⟧)
+            (lent self.old archive.now relay.now) (lent self.new archive.now relay.now) world left
+            (outs_of result) }
         ensures tells { TellsAt (λ c left. (side : Side)
             → IsToTell G.stands self.old.ledger self.old.holdings self.old.touched side c
             → TellTurn side self.old.before
@@ -397,6 +422,7 @@ impl<G: Ledger> Server<G> {
         ensures live { G.is_live self.new.ledger }
     {
         let _ = archive;
+        let _ = relay;
         self.clients.tell(
             self.alloc,
             &mut self.ledger,
@@ -416,22 +442,29 @@ impl<G: Ledger> Server<G> {
     }
 
     // A turn of the client that speaks.
-    fn turn_client<A: Archive>(&mut self, archive: &mut A) -> Option<Outs>
+    fn turn_client<A: Archive, Y: Relay>(&mut self, archive: &mut A, relay: &mut Y) -> Option<Outs>
         requires live { G.is_live self.old.ledger }
         ensures speaker_steps { let of = ghosts ⟦<G as Ledger>⟧ ⟦<A as Archive>⟧ in
             let was = beneath self.old.ledger archive.old in (side : Side)
             → IsSettled of was self.old.holdings self.old.caches side → SpeakerSteps A.tells side
-            (Lost of was (beneath self.new.ledger archive.new)) self.old result self.new }
+            (passing (asked_ghosts of ⟦<Y as Relay>⟧)
+            (asking_of (lent self.old archive.old relay.old)) (asking_of (lent self.new archive.new relay.new))) self.old result self.new }
         ensures quiet { Asked ⟦<G as Ledger>⟧ self.old.ledger self.new.ledger }
         ensures caches { CachesStay ⟦<G as Ledger>⟧ self.old.ledger self.old.caches self.new.caches }
         ensures keeps { A.tells → AllGrow (A.bytes archive.old) (A.bytes archive.new) }
         ensures still { IfNone result ((G.faults self.new.ledger ≡ G.faults self.old.ledger)
-            × (A.faults archive.new ≡ A.faults archive.old)) }
+            × (A.faults archive.new ≡ A.faults archive.old) × (relay.new ≡ relay.old)) }
         ensures disk_more { G.faults self.old.ledger ≤ G.faults self.new.ledger }
         ensures archive_more { A.faults archive.old ≤ A.faults archive.new }
+        ensures relay_more { Y.faults relay.old ≤ Y.faults relay.new }
+        ensures rows { (chain : Chain) → G.stands self.old.ledger chain
+            → CachesStand self.old.caches chain chain
+            → ReadsWithin (SpeakerReads chain (G.buckets self.old.ledger) self.old.speaker self.old.clients)
+            (G.reads self.old.ledger) (G.reads self.new.ledger) }
         ensures same { self.new ≡ record self.old {
           ledger = self.new.ledger;
           caches = self.new.caches;
+          desk = self.new.desk;
           clients = self.new.clients;
           speaker = self.new.speaker;
         } }
@@ -454,6 +487,8 @@ impl<G: Ledger> Server<G> {
             archive,
             &self.holdings,
             &mut self.caches,
+            &mut self.desk,
+            relay,
             i,
         );
         if !stays {
@@ -487,22 +522,29 @@ impl<G: Ledger> Server<G> {
 
     // A turn where the node has nothing left: the client too many is closed, or the one that speaks has its
     // turn.
-    fn turn_peers<A: Archive>(&mut self, archive: &mut A) -> Option<Outs>
+    fn turn_peers<A: Archive, Y: Relay>(&mut self, archive: &mut A, relay: &mut Y) -> Option<Outs>
         requires live { G.is_live self.old.ledger }
         ensures peers { let of = ghosts ⟦<G as Ledger>⟧ ⟦<A as Archive>⟧ in
             let was = beneath self.old.ledger archive.old in (side : Side)
             → IsSettled of was self.old.holdings self.old.caches side → PeersTurn A.tells side
-            (Lost of was (beneath self.new.ledger archive.new)) self.old result self.new }
+            (passing (asked_ghosts of ⟦<Y as Relay>⟧)
+            (asking_of (lent self.old archive.old relay.old)) (asking_of (lent self.new archive.new relay.new))) self.old result self.new }
         ensures quiet { Asked ⟦<G as Ledger>⟧ self.old.ledger self.new.ledger }
         ensures caches { CachesStay ⟦<G as Ledger>⟧ self.old.ledger self.old.caches self.new.caches }
         ensures keeps { A.tells → AllGrow (A.bytes archive.old) (A.bytes archive.new) }
         ensures still { IfNone result ((G.faults self.new.ledger ≡ G.faults self.old.ledger)
-            × (A.faults archive.new ≡ A.faults archive.old)) }
+            × (A.faults archive.new ≡ A.faults archive.old) × (relay.new ≡ relay.old)) }
         ensures disk_more { G.faults self.old.ledger ≤ G.faults self.new.ledger }
         ensures archive_more { A.faults archive.old ≤ A.faults archive.new }
+        ensures relay_more { Y.faults relay.old ≤ Y.faults relay.new }
+        ensures rows { (chain : Chain) → G.stands self.old.ledger chain
+            → CachesStand self.old.caches chain chain
+            → ReadsWithin (SpeakerReads chain (G.buckets self.old.ledger) self.old.speaker self.old.clients)
+            (G.reads self.old.ledger) (G.reads self.new.ledger) }
         ensures same { self.new ≡ record self.old {
           ledger = self.new.ledger;
           caches = self.new.caches;
+          desk = self.new.desk;
           clients = self.new.clients;
           speaker = self.new.speaker;
           surplus = self.new.surplus;
@@ -516,7 +558,7 @@ impl<G: Ledger> Server<G> {
     {
         match self.take_surplus() {
             Some(p) => Some(closing(self.alloc, p, Why::Clients)),
-            None => self.turn_client(archive),
+            None => self.turn_client(archive, relay),
         }
     }
 
@@ -529,34 +571,23 @@ impl<G: Ledger> Server<G> {
     ///
     /// In a line of the node: `StepFault::DiskFailed` where a call on the index's device failed, and
     /// `StepFault::Memory` where memory runs out.
-    pub fn turn<W: Threads + Sync, A: Archive>(
+    pub fn turn<W: Threads + Sync, A: Archive, Y: Relay>(
         &mut self,
         rt: &W,
         archive: &mut A,
         pace: &(dyn Pace + Sync),
+        relay: &mut Y,
     ) -> Result<Option<Outs>, StepFault>
         requires live { G.is_live self.old.ledger }
+
         // It takes the next event, or does what an event left, as `Run` allows.
         ensures step { (world : World) (left : List Event) → Stands G.stands self.old world left
             → (A.tells → AllGrow world.side.files (A.bytes archive.old)) → IfOk result (λ found.
-            IfSome found (λ o. TookTurn (ghosts ⟦<G as Ledger>⟧ ⟦<A as Archive>⟧)
-            (serving self.old archive.old) (serving self.new archive.new) world left (outs_of o))) }
+            IfSome found (λ o. TookTurn (asked_ghosts (ghosts ⟦<G as Ledger>⟧ ⟦<A as Archive>⟧) ⟦<Y as Relay>⟧)
+            (lent self.old archive.old relay.old) (lent self.new archive.new relay.new) world left (outs_of o))) }
         // Where nothing is done, nothing is left, and everyone was told.
         ensures done { (world : World) (left : List Event) → Stands G.stands self.old world left
             → IfOk result (λ found. IfNone found (IsDone G.stands ⟦<A as Archive>⟧ world left self.new)) }
-        ensures unchanged { IfOk result (λ found. IfNone found
-            ((G.faults self.new.ledger ≡ G.faults self.old.ledger)
-            × (A.faults archive.new ≡ A.faults archive.old))) }
-        // Where it fails, the server stops.
-        ensures failed { (world : World) (left : List Event) → Stands G.stands self.old world left
-            → (A.tells → AllGrow world.side.files (A.bytes archive.old)) → IfErr result (λ e.
-            TurnFailed (ghosts ⟦<G as Ledger>⟧ ⟦<A as Archive>⟧) (beneath self.old.ledger archive.old)
-            (beneath self.new.ledger archive.new) world left e) }
-        // A closing as out of memory stands for lost bytes, or for a whole line, its reply or what the client
-        // was to be told that found none.
-        ensures memory { (world : World) (left : List Event) (p : ℕ) → Stands G.stands self.old world left
-            → IfOk result (λ found. IfSome found (λ o. o.close ≡ Some (p, Why.Memory)
-            → HasLost p self.old.clients ⊎ (MeetsLine p left ⊎ WaitsToBeTold p world))) }
         // A client's next line that is too long closes it as that, where none of its bytes were lost.
         ensures long { (world : World) (p : ℕ) (rest : List Event)
             → Stands G.stands self.old world (says p too_long ∷ rest) → IsStill world
@@ -570,13 +601,37 @@ impl<G: Ledger> Server<G> {
             (self.new.surplus ≡ None) ⊎ (self.new.surplus ≡ self.old.surplus)) }
         ensures less { IfOk result (λ found. IfSome found (λ o. work self.new < work self.old)) }
         ensures idle { IfOk result (λ found. IfNone found (IsIdle self.new)) }
+
+        ensures unchanged { IfOk result (λ found. IfNone found
+            ((G.faults self.new.ledger ≡ G.faults self.old.ledger)
+            × (A.faults archive.new ≡ A.faults archive.old) × (relay.new ≡ relay.old))) }
+        ensures unasked { OnErr result (relay.new ≡ relay.old) }
         ensures numbers { (last : ℕ) → AreUpTo last self.old.clients → AreUpTo last self.new.clients }
         ensures live { OnOk result (G.is_live self.new.ledger) }
         ensures keeps { A.tells → AllGrow (A.bytes archive.old) (A.bytes archive.new) }
         // Also over a ledger that stands for no chain, and also where it fails.
         ensures archive_more { A.faults archive.old ≤ A.faults archive.new }
+        ensures relay_more { Y.faults relay.old ≤ Y.faults relay.new }
         ensures disk_more { G.faults self.old.ledger ≤ G.faults self.new.ledger }
         ensures beside { KeepsBeside ⟦<G as Ledger>⟧ self.old.ledger self.new.ledger }
+
+        // Where it fails, the server stops.
+        ensures failed { (world : World) (left : List Event) → Stands G.stands self.old world left
+            → (A.tells → AllGrow world.side.files (A.bytes archive.old)) → IfErr result (λ e.
+            TurnFailed (ghosts ⟦<G as Ledger>⟧ ⟦<A as Archive>⟧) (beneath self.old.ledger archive.old)
+            (beneath self.new.ledger archive.new) world left e) }
+        // A closing as out of memory stands for lost bytes, or for a whole line, its reply or what the client
+        // was to be told that found none.
+        ensures memory { (world : World) (left : List Event) (p : ℕ) → Stands G.stands self.old world left
+            → IfOk result (λ found. IfSome found (λ o. o.close ≡ Some (p, Why.Memory)
+            → HasLost p self.old.clients ⊎ (MeetsLine p left ⊎ WaitsToBeTold p world))) }
+        // For a client's next line the turn reads at most the rows of the calls that its requests ask for,
+        // each once.
+        ensures rows { (world : World) (p : ℕ) (bytes : List ℕ) (rest : List Event)
+            → Stands G.stands self.old world (says p (line bytes) ∷ rest) → IsStill world
+            → AllTold world → IsSure world.side
+            → ReadsWithin (LineReads world.side.chain (G.buckets self.old.ledger) (line_says bytes))
+            (G.reads self.old.ledger) (G.reads self.new.ledger) }
         ensures disk_counted { IsErrOf result turn_fault.DiskFailed
             → RoseBy (G.faults self.old.ledger) (G.faults self.new.ledger) 1 }
     {
@@ -587,11 +642,11 @@ impl<G: Ledger> Server<G> {
             };
         }
         if let Some(i) = self.clients.first_waiting() {
-            return Ok(Some(self.turn_tell(i, archive)));
+            return Ok(Some(self.turn_tell(i, archive, relay)));
         }
         match self.next_line() {
             Err(_) => Err(StepFault::Memory),
-            Ok(None) => Ok(self.turn_peers(archive)),
+            Ok(None) => Ok(self.turn_peers(archive, relay)),
             Ok(Some(met)) => match self.turn_node(rt, met, archive, pace) {
                 Ok(outs) => Ok(Some(outs)),
                 Err(fault) => Err(fault),

@@ -74,13 +74,15 @@ pub fn tell_turn<G: Ledger>(
     client: &mut Client,
 ) -> (Outs, bool)
     requires live { G.is_live ledger.old }
+
     ensures turn { (side : Side)
         → IsToTell G.stands ledger.old holdings.now touched.now side client.old
         → TellTurn side before.now (λ n. RoseBy (G.faults ledger.old) (G.faults ledger.new) n)
         client.old (outs_of result.0) (left_if result.1 client.new) }
+    ensures told { result.1 ≡ true → client.new.waits ≡ false }
+
     ensures quiet { Asked ⟦<G as Ledger>⟧ ledger.old ledger.new }
     ensures disk_more { G.faults ledger.old ≤ G.faults ledger.new }
-    ensures told { result.1 ≡ true → client.new.waits ≡ false }
     ensures same { (client.new.buffer ≡ client.old.buffer) × (client.new.peer ≡ client.old.peer) }
     ensures keys { keys_of client.new.session.subs ≡ keys_of client.old.session.subs }
 {

@@ -1,5 +1,5 @@
--- Transactions in a block (Electrum Protocol 1.4, blockchain.transaction.get_merkle and id_from_pos), and of which
--- block a tree is kept.
+-- Transactions in a block (Electrum Protocol 1.4, blockchain.transaction.get_merkle and id_from_pos), and of
+-- which block a tree is kept.
 use Rattle.std.specs.Prelude.{◌≡◌, ℕ, List, slice_get, Option, None, Some, IfSome, IsSomeAnd}
 use Rattle.std.specs.List.{position}
 use Rattle.std.specs.Str.{bytes_eq}

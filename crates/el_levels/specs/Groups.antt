@@ -1,5 +1,5 @@
--- A Merkle tree over many hashes by groups of 2,048 of them: 11 levels above the hashes stands one hash of each
--- group.
+-- A Merkle tree over many hashes by groups of 2,048 of them: 11 levels above the hashes stands one hash of
+-- each group.
 use Rattle.std.specs.Prelude.{ℕ, ◌+◌, ◌-◌, ◌*◌, ◌/◌, List, length, map, take, drop, slice_index_or}
 use Rattle.std.specs.List.{range_with_len}
 use Rattle.el_base.specs.declared.hash.Hash32.{Hash32}

@@ -14,8 +14,8 @@ use el_model::{Ledger, QueryFault};
 use std::alloc::Global;
 use std::marker::Model;
 
-/// The most txids of a block whose tree is kept. A tree takes 64 bytes a txid, and at most as much again where
-/// its memory grew by doubling: below 2 MB.
+/// The most txids of a block whose tree is kept. A tree takes 64 bytes a txid, and at most as much again
+/// where its memory grew by doubling: below 2 MB.
 pub const TXID_LIMIT: usize = 15_000;
 
 /// The Merkle tree of the txids of one block, that of the last proof, so that the next proof in that block
@@ -37,8 +37,8 @@ impl Model for BlockTree {
     ghost invariant = { λ t. IfSome t.kept (λ (b : BlockTxids). length b.txids ≤ TXID_LIMIT) };
 }
 
-// Reads the txids of the block of that height for the proof of one transaction; they are hashed only where the
-// block has it.
+// Reads the txids of the block of that height for the proof of one transaction; they are hashed only where
+// the block has it.
 fn read_proof<G: Ledger>(
     alloc: Global,
     ledger: &mut G,
@@ -89,9 +89,10 @@ impl BlockTree {
         self.kept = None;
     }
 
-    /// The proof of the transaction that is asked for, in the block of that height; None exactly where the block
-    /// lacks it. Where the tree of the block is kept, nothing is read or hashed; a txid is compared with those of
-    /// the block. Else the txids are read, and the tree is kept unless they are more than `TXID_LIMIT`.
+    /// The proof of the transaction that is asked for, in the block of that height; None exactly where the
+    /// block lacks it. Where the tree of the block is kept, nothing is read or hashed; a txid is compared
+    /// with those of the block. Else the txids are read, and the tree is kept unless they are more than
+    /// `TXID_LIMIT`.
     ///
     /// # Errors
     ///
@@ -138,7 +139,8 @@ impl BlockTree {
     }
 
     /// The txid at that place, counted from 0, in the block of that height; None exactly where the block has
-    /// fewer. Where the tree of the block is kept, nothing is read. Nothing is hashed, and what is kept stays.
+    /// fewer. Where the tree of the block is kept, nothing is read. Nothing is hashed, and what is kept
+    /// stays.
     ///
     /// # Errors
     ///

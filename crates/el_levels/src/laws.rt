@@ -6,8 +6,8 @@ ghost use Rattle.el_levels.specs.Groups.{group, lifted, lifted_groups, group_roo
 ghost use Rattle.el_levels.specs.declared.groups.TheConstants.{GROUP, LEVELS};
 
 /// The row 11 levels above hashes has one hash of each group. Hashes of a full group or more have the root of
-/// that row. A branch in them is the partners of its place in the group through 11 levels, and then the branch
-/// of the group's number in that row.
+/// that row. A branch in them is the partners of its place in the group through 11 levels, and then the
+/// branch of the group's number in that row.
 pub fn root_is_over_groups()
     ensures row { (list : List Hash32) → row LEVELS list ≡ lifted_groups LEVELS list }
     ensures root { (list : List Hash32) → GROUP ≤ length list

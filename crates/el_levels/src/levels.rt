@@ -99,9 +99,9 @@ impl Levels {
     }
 
     /// The proof of the header of that height up to a checkpoint (Electrum Protocol 1.4, `cp_height`): the
-    /// partners of its block's hash, from the leaf upwards, and the root, both over the block hashes of heights
-    /// 0 to `upto`, in inner order. At most the group of the height and the last group are read, and what was
-    /// read is kept: asked again of the group up to the same checkpoint, nothing is read or hashed.
+    /// partners of its block's hash, from the leaf upwards, and the root, both over the block hashes of
+    /// heights 0 to `upto`, in inner order. At most the group of the height and the last group are read, and
+    /// what was read is kept: asked again of the group up to the same checkpoint, nothing is read or hashed.
     ///
     /// # Errors
     ///

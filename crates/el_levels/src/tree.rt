@@ -10,10 +10,10 @@ use el_merkle::row;
 use std::alloc::Global;
 use std::marker::Model;
 
-/// A Merkle tree over hashes, all in inner order, of which the rows up to some level are kept: a branch is read
-/// from it without hashing. Contracts see the hashes at its foot and the number of levels above them. A tree
-/// has at least one hash, and at most 2 to the power of its levels. It takes 32 bytes a hash of its rows,
-/// which are about twice as many as those at its foot.
+/// A Merkle tree over hashes, all in inner order, of which the rows up to some level are kept: a branch is
+/// read from it without hashing. Contracts see the hashes at its foot and the number of levels above them. A
+/// tree has at least one hash, and at most 2 to the power of its levels. It takes 32 bytes a hash of its
+/// rows, which are about twice as many as those at its foot.
 #[derive(Debug, Drop)]
 pub struct Tree {
     hashes: Vec<Hash32>,

@@ -170,8 +170,8 @@ fn above_groups<G: Ledger>(
     Ok(list)
 }
 
-/// The tree above the groups of the hashes of heights 0 to `upto`: the kept one, where it is that, or else one
-/// that is made of the kept roots and of the last group.
+/// The tree above the groups of the hashes of heights 0 to `upto`: the kept one, where it is that, or else
+/// one that is made of the kept roots and of the last group.
 pub fn above_for<G: Ledger>(
     alloc: Global,
     ledger: &mut G,

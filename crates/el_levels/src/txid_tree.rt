@@ -95,8 +95,8 @@ impl TxidTree {
         Ok(Proof { txid, pos, branch })
     }
 
-    /// The proof of the transaction that is asked for; None where the block lacks it. The only error is out of
-    /// memory.
+    /// The proof of the transaction that is asked for; None where the block lacks it. The only error is out
+    /// of memory.
     pub fn proof_of(&self, alloc: Global, sought: Sought) -> Result<Option<Proof>, OutOfMemory>
         ensures { IfOk result (IsProofOf sought self.now.txids) }
     {

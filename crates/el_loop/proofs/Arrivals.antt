@@ -1,5 +1,5 @@
 -- An arrival, with all turns that it asks for.
-use Rattle.std.proofs.Common.{◌≡◌, inl, inr, ℕ, ◌==◌, false, not, List, [], ◌∷◌, ◌++◌, map, None, refl, sym, ap, ◌∙◌, append_assoc, IsTrue}
+use Rattle.std.proofs.Common.{◌≡◌, inl, inr, ℕ, ◌==◌, false, not, List, [], ◌∷◌, ◌++◌, map, None, refl, sym, ap, ◌∙◌, append_assoc, append-nil, IsTrue}
 use Rattle.std.specs.Prelude.{Result, Ok, Err, IfErr, find}
 use Rattle.std.specs.List.{filter}
 use Rattle.el_outside.specs.declared.archive.Archive as archive
@@ -17,6 +17,7 @@ use Rattle.el_core.specs.Arrivals.{TookArrival, Quietly, none, joined, departed}
 use Rattle.el_loop.specs.within.Sending.{AllOpen}
 use Rattle.el_loop.specs.within.Progress.{AllGhosts, Snapshot, snapshot, failed, Finished, Stopped, StoppedIn}
 use Rattle.el_loop.proofs.Openness.{client_open, some_peer}
+use Rattle.el_side.specs.Deeds.{answered}
 use Rattle.el_side.proofs.Deeds.{all_rose_none}
 use Rattle.el_loop.proofs.Progresses.{turns_then}
 
@@ -125,15 +126,15 @@ pub taken_files : {G : Type 0} (stands : G → Chain → Type 0) (a : ArrivalWit
 taken_files stands a world s t = quiet_files (after_hearing a world) t.done t.next t.quietly
     ∙ files_after a world
 
-module _ {G A K : Type 0} (of : AllGhosts G A K) where
+module _ {G A Y K : Type 0} (of : AllGhosts G A Y K) where
   -- an arrival was taken, and its work is done
-  pub arrival_done : (a : ArrivalWithBytes) (world : World) (old taken : State G) (files : A) (k : K)
-      (now : Snapshot G A K) → IsStill world → AllTold world → taken.ledger ≡ old.ledger
+  pub arrival_done : (a : ArrivalWithBytes) (world : World) (old taken : State G) (files : A) (y : Y) (k : K)
+      (now : Snapshot G A Y K) → IsStill world → AllTold world → taken.ledger ≡ old.ledger
       → (t : TookArrival of.beneath.ledger.stands a world taken)
-      → Finished of t.next t.left (snapshot taken files k) now
-      → Finished of (after_hearing a world) (events world a) (snapshot old files k)
+      → Finished of t.next t.left (snapshot taken files y k) now
+      → Finished of (after_hearing a world) (events world a) (snapshot old files y k)
       now
-  arrival_done a world old taken files k now still told same t f =
+  arrival_done a world old taken files y k now still told same t f =
       let q = quietly_turns of.beneath.files (after_hearing a world) t.done t.next
       (still_after a world ∙ still) (told_after a world told) t.quietly in
       let turns = turns_then of.beneath.files (after_hearing a world) t.next f.world t.done t.left [] f.messages
@@ -149,17 +150,17 @@ module _ {G A K : Type 0} (of : AllGhosts G A K) where
         told = f.told;
         statuses = λ sure. f.statuses (turns_sure q ∙ sure);
         stood = f.stood;
-        went = record { trace = f.went.trace; rose = rw (← same) f.went.rose };
+        went = record { trace = f.went.trace; rose = rw (← same) f.went.rose; offered = f.went.offered };
         ready = f.ready;
       }
 
   -- or the run stops in it
   pub arrival_stopped : (leaves : Chain → Chain → Type 0) (a : ArrivalWithBytes) (world : World)
-      (old taken : State G) (files : A) (k : K) (now : Snapshot G A K) (stop : Stop) → IsStill world
+      (old taken : State G) (files : A) (y : Y) (k : K) (now : Snapshot G A Y K) (stop : Stop) → IsStill world
       → AllTold world → taken.ledger ≡ old.ledger → (t : TookArrival of.beneath.ledger.stands a world taken)
-      → Stopped of leaves t.next t.left stop (snapshot taken files k) now
-      → StoppedIn of leaves world a stop (snapshot old files k) now
-  arrival_stopped leaves a world old taken files k now stop still told same t f =
+      → Stopped of leaves t.next t.left stop (snapshot taken files y k) now
+      → StoppedIn of leaves world a stop (snapshot old files y k) now
+  arrival_stopped leaves a world old taken files y k now stop still told same t f =
       let q = quietly_turns of.beneath.files (after_hearing a world) t.done t.next
       (still_after a world ∙ still) (told_after a world told) t.quietly in
       let whole = t.whole ∙ ap (λ (l : List Event). t.done ++ l) f.whole
@@ -175,7 +176,7 @@ module _ {G A K : Type 0} (of : AllGhosts G A K) where
             f.world
             whole turns f.stops refl refl refl;
         grown = f.grown;
-        went = record { trace = f.went.trace; rose = rw (← same) f.went.rose };
+        went = record { trace = f.went.trace; rose = rw (← same) f.went.rose; offered = f.went.offered };
         flight = f.flight;
         is_flight = f.is_flight;
         crash = λ sure. f.crash (turns_sure q ∙ ap (λ (s : Side). s.sure) (heard_side a world) ∙ sure);
@@ -183,7 +184,7 @@ module _ {G A K : Type 0} (of : AllGhosts G A K) where
 
   -- no memory was found for the node's bytes, or for a new client
   pub arrival_lost : (leaves : Chain → Chain → Type 0) (a : ArrivalWithBytes) (world : World)
-      (now : Snapshot G A K) → MayStarve a
+      (now : Snapshot G A Y K) → MayStarve a
       → (of.beneath.files.tells → AllGrow world.side.files (of.beneath.files.bytes now.files))
       → (IsSure world.side → leaves world.side.chain world.side.chain)
       → StoppedIn of leaves world a by_memory now now
@@ -196,6 +197,7 @@ module _ {G A K : Type 0} (of : AllGhosts G A K) where
     went = record {
       trace = λ t. goes_none (of.link.trace now.link);
       rose = all_rose_none (failed of now);
+      offered = λ tells. sym (append-nil (answered (of.relay.offers now.relay)));
     };
     flight = world.side.chain;
     is_flight = refl;

@@ -3,15 +3,17 @@ use Rattle.std.proofs.Common.{◌≡◌, inl, inr, ℕ, List, [], ◌++◌, None
 use Rattle.el_outside.specs.declared.archive.Archive as archive
 use Rattle.el_outside.specs.Counts.{RoseBy}
 use Rattle.el_side.specs.Deeds as device
-use Rattle.el_side.specs.Deeds.{Deed, failures, faults, Rose}
+use Rattle.el_outside.specs.Relays.{Offer}
+use Rattle.el_replies.specs.Spending.{Did}
+use Rattle.el_side.specs.Deeds.{Deed, failures, offers, answered, Offered, faults, Rose}
 use Rattle.el_outside.specs.Files.{AllGrow}
 use Rattle.el_outside.specs.Trace.{Message, Closing}
 use Rattle.el_outside.specs.declared.link.Why.{Why}
-use Rattle.el_side.proofs.Deeds.{failures_on, all_rose_none, all_rose_on}
+use Rattle.el_side.proofs.Deeds.{failures_on, offers_on, all_rose_none, all_rose_on}
 use Rattle.el_outside.proofs.Traces.{goes_none, goes_more, rose_none, all_grow_none, all_grow_more}
 use Rattle.el_chain.specs.Chains.{Chain}
 use Rattle.el_chain.specs.Moves.{StoodBy}
-use Rattle.el_side.specs.Beneath.{Lost, beneath}
+use Rattle.el_side.specs.Beneath.{beneath}
 use Rattle.el_world.specs.World.{World, Event, Outs}
 use Rattle.el_world.specs.Run.{Turns, none, more, Stop, Stops, disk_failed, sift_failed, no_memory, untold, unsent, files_at, Delivers, all, sends, loses, lost_by, IsDeparture, LostBy, by_disk, by_link, by_memory}
 use Rattle.el_side.proofs.Settled.{by_sure, not_both}
@@ -19,11 +21,11 @@ use Rattle.el_side.specs.Side.{IsSure}
 use Rattle.el_side.specs.UnderWay.{IsUnderWay, before as not_moved}
 use Rattle.el_world.proofs.Sureness.{turn_sure, turns_sure}
 use Rattle.el_world.specs.Flights.{FliesAt, IsMoveOf}
-use Rattle.el_core.specs.State.{State, Stands, serving}
+use Rattle.el_core.specs.State.{State, Stands, lent, asking_of}
 use Rattle.el_core.specs.Turn.{TookTurn, TurnFailed, IsWithin, KeepsChain, IsDone, stop_of}
 use Rattle.el_model.specs.declared.fault.QueryFault.{QueryFault}
 use Rattle.el_loop.specs.within.Sending.{StoppedSending}
-use Rattle.el_loop.specs.within.Progress.{AllGhosts, ClientsAreOpen, CanDeliver, Delivered, Snapshot, snapshot, failed, IsReady, Progress, Finished, Stopped}
+use Rattle.el_loop.specs.within.Progress.{AllGhosts, asked_of, ClientsAreOpen, CanDeliver, Delivered, Snapshot, snapshot, failed, IsReady, Progress, Finished, Stopped}
 use Rattle.el_loop.proofs.Turned.{after_turn, still_waiting, turn_to_one}
 
 -- these losses are of calls of the link
@@ -31,15 +33,16 @@ record OfLink (losses : List Deed) : Type 0 where
   no_archive : failures device.archive losses ≡ 0
   no_disk : failures device.disk losses ≡ 0
   no_relay : failures device.relay losses ≡ 0
+  no_offers : offers losses ≡ []
 
 lost_more : (reason : Why) (ls : List Deed) → IsDeparture reason → OfLink ls → OfLink (lost_by reason ++ ls)
-lost_more reason ls (inl gone) h = rw gone (record { no_archive = h.no_archive; no_disk = h.no_disk; no_relay = h.no_relay })
+lost_more reason ls (inl gone) h = rw gone (record { no_archive = h.no_archive; no_disk = h.no_disk; no_relay = h.no_relay; no_offers = h.no_offers })
 lost_more reason ls (inr memory) h = rw memory h
 
 -- sending loses nothing but calls of the link
 sending_loses : (w : World) (ms : List Message) (c : Option Closing) (sent : List Message) (cs : List Closing)
     (ls : List Deed) (next : World) → Delivers w ms c sent cs ls next → OfLink ls
-sending_loses w ms c sent cs ls next (all _ _) = record { no_archive = refl; no_disk = refl; no_relay = refl }
+sending_loses w ms c sent cs ls next (all _ _) = record { no_archive = refl; no_disk = refl; no_relay = refl; no_offers = refl }
 sending_loses w ms c sent cs ls next (sends w' m ms' c' sent' cs' ls' next' d) =
     sending_loses w' ms' c' sent' cs' ls' next' d
 sending_loses w ms c sent cs ls next (loses w' m ms' c' reason sent' cs' ls' next' client departure d) =
@@ -47,14 +50,15 @@ sending_loses w ms c sent cs ls next (loses w' m ms' c' reason sent' cs' ls' nex
 
 last_lost : (stop : Stop) (ls : List Deed) → LostBy stop ls → OfLink ls
 last_lost by_disk ls lost = absurd lost
-last_lost by_link ls lost = rw lost (record { no_archive = refl; no_disk = refl; no_relay = refl })
-last_lost by_memory ls lost = rw lost (record { no_archive = refl; no_disk = refl; no_relay = refl })
+last_lost by_link ls lost = rw lost (record { no_archive = refl; no_disk = refl; no_relay = refl; no_offers = refl })
+last_lost by_memory ls lost = rw lost (record { no_archive = refl; no_disk = refl; no_relay = refl; no_offers = refl })
 
 both_of_link : (xs ys : List Deed) → OfLink xs → OfLink ys → OfLink (xs ++ ys)
 both_of_link xs ys a b = record {
   no_archive = rw (failures_on device.archive xs ys, a.no_archive, b.no_archive) refl;
   no_disk = rw (failures_on device.disk xs ys, a.no_disk, b.no_disk) refl;
   no_relay = rw (failures_on device.relay xs ys, a.no_relay, b.no_relay) refl;
+  no_offers = rw (offers_on xs ys, a.no_offers, b.no_offers) refl;
 }
 
 -- calls of the link failed so often
@@ -103,6 +107,18 @@ within_files (unsent done rest outs failed after front back m lost last next who
     all')
     within = absurd within
 
+-- nor is an offer among what was lost in it
+within_offers : {A : Type 0} {of_files : archive.Ghosts A} {world : World} {left : List Event} {stop : Stop}
+    {sent : List Message} {closings : List Closing} {losses : List Deed}
+    (stops : Stops of_files world left stop sent closings losses) → IsWithin stops → offers losses ≡ []
+within_offers (disk_failed by nodes silent closed lost) within = ap offers lost
+within_offers (sift_failed by busy silent closed lost) within = ap offers lost
+within_offers (no_memory by nodes silent closed lost) within = ap offers lost
+within_offers (untold by busy silent closed lost) within = ap offers lost
+within_offers (unsent done rest outs failed after front back m lost last next whole turn cut node delivers by
+    all')
+    within = absurd within
+
 within_flies : {A : Type 0} {of_files : archive.Ghosts A} {world : World} {left : List Event} {stop : Stop}
     {sent : List Message} {closings : List Closing} {losses : List Deed}
     (stops : Stops of_files world left stop sent closings losses) → IsWithin stops → (now : ℕ → List ℕ)
@@ -142,9 +158,9 @@ in_flight {of_files = of_files} world left now leaves keeps of_sure =
       crash = λ sure. absurd (not_both world.side sure un);
     })
 
-module _ {G A K : Type 0} (of : AllGhosts G A K) where
+module _ {G A Y K : Type 0} (of : AllGhosts G A Y K) where
   -- before the first turn
-  pub begins : (first : World) (all' : List Event) (now : Snapshot G A K)
+  pub begins : (first : World) (all' : List Event) (now : Snapshot G A Y K)
       → Stands of.beneath.ledger.stands now.server first all' → IsReady of first now
       → Progress of first all' now now
   begins first all' now stood ready = record {
@@ -160,17 +176,18 @@ module _ {G A K : Type 0} (of : AllGhosts G A K) where
     went = record {
       trace = λ t. goes_none (of.link.trace now.link);
       rose = all_rose_none (failed of now);
+      offered = λ tells. sym (append-nil (answered (of.relay.offers now.relay)));
     };
     ready = ready;
   }
 
   -- what a turn gave can be sent and closed
-  pub can_deliver : (world : World) (left : List Event) (outs : Outs) (s turned : State G) (files files' : A)
+  pub can_deliver : (world : World) (left : List Event) (outs : Outs) (s turned : State G) (files files' : A) (y y' : Y)
       (k : K) → Stands of.beneath.ledger.stands s world left
-      → (t : TookTurn of.beneath (serving s files) (serving turned files') world left outs)
+      → (t : TookTurn (asked_of of) (lent s files y) (lent turned files' y') world left outs)
       → (of.link.tells → ClientsAreOpen s world (of.link.trace k))
       → CanDeliver of.beneath.ledger.stands of.link.tells turned t.next t.rest outs (of.link.trace k)
-  can_deliver world left outs s turned files files' k stood t are =
+  can_deliver world left outs s turned files files' y y' k stood t are =
       let one = turn_to_one of.beneath.files world t.done outs t.losses t.next t.turn in
       let then' = λ (told : of.link.tells). after_turn of.beneath.ledger.stands of.beneath.files (of.link.trace k) s world
       left t.rest t.done outs t.losses t.next stood t.whole t.turn (are told) in
@@ -184,30 +201,41 @@ module _ {G A K : Type 0} (of : AllGhosts G A K) where
       }
 
   -- what was lost in a turn, and in sending what it gave
-  turn_rose : (s turned later : State G) (files files' : A) (k k' : K) (xs ys : List Deed)
-      → Lost of.beneath (beneath s.ledger files) (beneath turned.ledger files') xs
+  turn_rose : (s turned later : State G) (files files' : A) (y y' : Y) (k k' : K) (xs ys : List Deed)
+      → Did (asked_of of) (asking_of (lent s files y)) (asking_of (lent turned files' y')) xs
       → OfLink ys → RoseBy (of.link.faults k) (of.link.faults k') (failures device.link ys)
       → later.ledger ≡ turned.ledger
-      → Rose (failed of (snapshot s files k))
-      (failed of (snapshot later files' k')) (xs ++ ys)
-  turn_rose s turned later files files' k k' xs ys in_turn alone in_sending same =
-      rw same (all_rose_on (failed of (snapshot s files k))
-      (failed of (snapshot turned files' k))
-      (failed of (snapshot turned files' k')) xs ys (in_turn (of.link.faults k) 0)
+      → Rose (failed of (snapshot s files y k))
+      (failed of (snapshot later files' y' k')) (xs ++ ys)
+  turn_rose s turned later files files' y y' k k' xs ys in_turn alone in_sending same =
+      rw same (all_rose_on (failed of (snapshot s files y k))
+      (failed of (snapshot turned files' y' k))
+      (failed of (snapshot turned files' y' k')) xs ys (in_turn.rose (of.link.faults k))
       (link_rose (of.link.faults k) (of.link.faults k') (of.beneath.files.faults files')
-      (of.beneath.ledger.faults turned.ledger) 0
+      (of.beneath.ledger.faults turned.ledger) (of.relay.faults y')
       ys alone in_sending))
 
+  -- what the relay was offered in a turn, and in sending what it gave
+  turn_offered : (before : Snapshot G A Y K) (s turned : State G) (files files' : A) (y y' : Y) (ls xs ys : List Deed)
+      → Offered of.relay before.relay y ls
+      → Did (asked_of of) (asking_of (lent s files y)) (asking_of (lent turned files' y')) xs
+      → OfLink ys → Offered of.relay before.relay y' (ls ++ (xs ++ ys))
+  turn_offered before s turned files files' y y' ls xs ys so_far in_turn alone = λ tells.
+      let start = answered (of.relay.offers before.relay) in
+      let none : offers (xs ++ ys) ≡ offers xs = offers_on xs ys ∙ ap (λ (l : List Offer). offers xs ++ l) alone.no_offers ∙ append-nil (offers xs) in
+      in_turn.offered tells ∙ ap (λ (l : List Offer). l ++ offers xs) (so_far tells) ∙ append_assoc start (offers ls) (offers xs)
+      ∙ ap (λ (l : List Offer). start ++ l) (ap (λ (l : List Offer). offers ls ++ l) (sym none) ∙ sym (offers_on ls (xs ++ ys)))
+
   -- one more turn, and what it gave, sent and closed
-  pub progress_more : (first : World) (all' : List Event) (before : Snapshot G A K) (s turned later : State G)
-      (files files' : A) (k k' : K) (outs : Outs)
-      → (p : Progress of first all' before (snapshot s files k))
-      → (t : TookTurn of.beneath (serving s files) (serving turned files') p.world p.left outs)
+  pub progress_more : (first : World) (all' : List Event) (before : Snapshot G A Y K) (s turned later : State G)
+      (files files' : A) (y y' : Y) (k k' : K) (outs : Outs)
+      → (p : Progress of first all' before (snapshot s files y k))
+      → (t : TookTurn (asked_of of) (lent s files y) (lent turned files' y') p.world p.left outs)
       → Delivered of.beneath.ledger.stands of.link.tells t.next t.rest outs turned (of.link.trace k)
       (of.link.faults k)
       later (of.link.trace k') (of.link.faults k')
-      → Progress of first all' before (snapshot later files' k')
-  progress_more first all' before s turned later files files' k k' outs p t d =
+      → Progress of first all' before (snapshot later files' y' k')
+  progress_more first all' before s turned later files files' y y' k k' outs p t d =
       let alone = sending_loses t.next outs.messages outs.closing d.sent d.closings d.losses d.next d.delivers
       in
       record {
@@ -227,10 +255,11 @@ module _ {G A K : Type 0} (of : AllGhosts G A K) where
           trace = λ told. goes_more (of.link.trace before.link) (of.link.trace k) (of.link.trace k') [] []
               p.messages d.sent p.closings d.closings (p.went.trace told) (d.trace told);
           rose = all_rose_on (failed of before)
-              (failed of (snapshot s files k))
-              (failed of (snapshot later files' k')) p.losses (t.losses ++ d.losses)
-              p.went.rose (turn_rose s turned later files files' k k' t.losses d.losses t.rose alone d.rose
+              (failed of (snapshot s files y k))
+              (failed of (snapshot later files' y' k')) p.losses (t.losses ++ d.losses)
+              p.went.rose (turn_rose s turned later files files' y y' k k' t.losses d.losses t.did alone d.rose
               d.ledger);
+          offered = turn_offered before s turned files files' y y' p.losses t.losses d.losses p.went.offered t.did alone;
         };
         ready = record {
           are_open = λ told. record {
@@ -248,15 +277,15 @@ module _ {G A K : Type 0} (of : AllGhosts G A K) where
       }
 
   -- the work is done
-  pub finished : (first : World) (all' : List Event) (before : Snapshot G A K) (s turned : State G)
-      (files files' : A) (k : K)
-      → (p : Progress of first all' before (snapshot s files k))
+  pub finished : (first : World) (all' : List Event) (before : Snapshot G A Y K) (s turned : State G)
+      (files files' : A) (y y' : Y) (k : K)
+      → (p : Progress of first all' before (snapshot s files y k))
       → IsDone of.beneath.ledger.stands of.beneath.files p.world p.left turned → turned.surplus ≡ None
       → (of.beneath.ledger.faults turned.ledger ≡ of.beneath.ledger.faults s.ledger)
-      × (of.beneath.files.faults files' ≡ of.beneath.files.faults files)
+      × (of.beneath.files.faults files' ≡ of.beneath.files.faults files) × (y' ≡ y)
       → (of.beneath.files.tells → AllGrow (of.beneath.files.bytes files) (of.beneath.files.bytes files'))
-      → Finished of first all' before (snapshot turned files' k)
-  finished first all' before s turned files files' k p d unused same grows =
+      → Finished of first all' before (snapshot turned files' y' k)
+  finished first all' before s turned files files' y y' k p d unused same grows =
       let both = turns_then of.beneath.files first p.world p.world p.done p.left p.messages [] p.closings []
       p.losses [] p.turns d.turns in
       record {
@@ -269,7 +298,7 @@ module _ {G A K : Type 0} (of : AllGhosts G A K) where
         told = d.told;
         statuses = λ sure. d.statuses (turns_sure p.turns ∙ sure);
         stood = d.stood;
-        went = record { trace = p.went.trace; rose = rw (same.0, same.1) p.went.rose };
+        went = record { trace = p.went.trace; rose = rw (same.0, same.1, same.2) p.went.rose; offered = rw same.2 p.went.offered };
         ready = record {
           are_open = λ told. record {
             sessions = (p.ready.are_open told).sessions;
@@ -282,13 +311,13 @@ module _ {G A K : Type 0} (of : AllGhosts G A K) where
 
   -- a turn failed
   pub stopped_turn : (leaves : Chain → Chain → Type 0) (first : World) (all' : List Event)
-      (before : Snapshot G A K) (s turned : State G) (files files' : A) (k : K) (stop : Stop) (e : QueryFault)
-      → (p : Progress of first all' before (snapshot s files k))
+      (before : Snapshot G A Y K) (s turned : State G) (files files' : A) (y y' : Y) (k : K) (stop : Stop) (e : QueryFault)
+      → (p : Progress of first all' before (snapshot s files y k))
       → (t : TurnFailed of.beneath (beneath s.ledger files) (beneath turned.ledger files') p.world p.left e)
-      → ((sure : IsSure p.world.side) → leaves p.world.side.chain (t.stops_at sure).next)
+      → y' ≡ y → ((sure : IsSure p.world.side) → leaves p.world.side.chain (t.stops_at sure).next)
       → (of.beneath.files.tells → AllGrow (of.beneath.files.bytes files) (of.beneath.files.bytes files')) → stop ≡ stop_of e
-      → Stopped of leaves first all' stop before (snapshot turned files' k)
-  stopped_turn leaves first all' before s turned files files' k stop e p t left grows is =
+      → Stopped of leaves first all' stop before (snapshot turned files' y' k)
+  stopped_turn leaves first all' before s turned files files' y y' k stop e p t same left grows is =
       let grown = λ (told : of.beneath.files.tells). all_grow_more p.world.side.files (of.beneath.files.bytes files)
       (of.beneath.files.bytes files') (p.ready.grown told) (grows told) in
       let flight = in_flight p.world p.left (of.beneath.files.bytes files') leaves (KeepsChain t.stops)
@@ -310,9 +339,11 @@ module _ {G A K : Type 0} (of : AllGhosts G A K) where
         went = record {
           trace = λ told. rw (append-nil p.messages, append-nil p.closings) (p.went.trace told);
           rose = all_rose_on (failed of before)
-              (failed of (snapshot s files k))
-              (failed of (snapshot turned files' k)) p.losses t.losses p.went.rose
-              (t.rose (of.link.faults k) 0);
+              (failed of (snapshot s files y k))
+              (failed of (snapshot turned files' y' k)) p.losses t.losses p.went.rose
+              (rw same (t.rose (of.link.faults k) (of.relay.faults y)));
+          offered = rw same (λ tells. p.went.offered tells ∙ ap (λ (l : List Offer). answered (of.relay.offers before.relay) ++ l)
+              (sym (offers_on p.losses t.losses ∙ ap (λ (l : List Offer). offers p.losses ++ l) (within_offers t.stops t.within) ∙ append-nil (offers p.losses))));
         };
         flight = flight.next;
         is_flight = within_flies t.stops t.within (of.beneath.files.bytes files') flight.next grown flight.way flight.kept;
@@ -321,16 +352,16 @@ module _ {G A K : Type 0} (of : AllGhosts G A K) where
 
   -- an answer to the node was not sent
   pub stopped_sending : (leaves : Chain → Chain → Type 0) (first : World) (all' : List Event)
-      (before : Snapshot G A K) (s turned later : State G) (files files' : A) (k k' : K) (outs : Outs)
+      (before : Snapshot G A Y K) (s turned later : State G) (files files' : A) (y y' : Y) (k k' : K) (outs : Outs)
       (stop : Stop)
-      → (p : Progress of first all' before (snapshot s files k))
-      → (t : TookTurn of.beneath (serving s files) (serving turned files') p.world p.left outs)
+      → (p : Progress of first all' before (snapshot s files y k))
+      → (t : TookTurn (asked_of of) (lent s files y) (lent turned files' y') p.world p.left outs)
       → StoppedSending of.link.tells t.next outs.messages stop turned (of.link.trace k) (of.link.faults k)
       later
       (of.link.trace k') (of.link.faults k')
       → (IsSure t.next.side → leaves p.world.side.chain t.next.side.chain)
-      → Stopped of leaves first all' stop before (snapshot later files' k')
-  stopped_sending leaves first all' before s turned later files files' k k' outs stop p t d crash =
+      → Stopped of leaves first all' stop before (snapshot later files' y' k')
+  stopped_sending leaves first all' before s turned later files files' y y' k k' outs stop p t d crash =
       let alone = both_of_link d.losses d.last
       (sending_loses t.next d.front None d.sent d.closings d.losses d.next d.delivers)
       (last_lost stop d.last d.lost) in
@@ -353,11 +384,12 @@ module _ {G A K : Type 0} (of : AllGhosts G A K) where
           trace = λ told. goes_more (of.link.trace before.link) (of.link.trace k) (of.link.trace k') [] []
               p.messages d.sent p.closings d.closings (p.went.trace told) (d.trace told);
           rose = all_rose_on (failed of before)
-              (failed of (snapshot s files k))
-              (failed of (snapshot later files' k')) p.losses
+              (failed of (snapshot s files y k))
+              (failed of (snapshot later files' y' k')) p.losses
               (t.losses ++ (d.losses ++ d.last)) p.went.rose
-              (turn_rose s turned later files files' k k' t.losses (d.losses ++ d.last) t.rose alone d.rose
+              (turn_rose s turned later files files' y y' k k' t.losses (d.losses ++ d.last) t.did alone d.rose
               d.ledger);
+          offered = turn_offered before s turned files files' y y' p.losses t.losses (d.losses ++ d.last) p.went.offered t.did alone;
         };
         flight = t.next.side.chain;
         is_flight = refl;

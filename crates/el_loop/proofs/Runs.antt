@@ -1,15 +1,16 @@
 -- A run, one arrival after the other.
-use Rattle.std.proofs.Common.{◌≡◌, inl, inr, ℕ, ◌+◌, ◌<◌, ◌==◌, Bool, true, false, List, [], ◌∷◌, ◌++◌, length, None, refl, sym, ap, ◌∙◌, append-nil, arith, IsTrue, length-append, add-zero}
+use Rattle.std.proofs.Common.{◌≡◌, inl, inr, ℕ, ◌+◌, ◌<◌, ◌==◌, Bool, true, false, List, [], ◌∷◌, ◌++◌, length, None, refl, sym, ap, ◌∙◌, append-nil, append_assoc, arith, IsTrue, length-append, add-zero}
 use Rattle.std.proofs.lemmas.List.{map-append}
 use Rattle.el_base.proofs.Lists.{all_more}
 use Rattle.el_outside.specs.declared.archive.Archive as archive
 use Rattle.el_outside.specs.Counts.{RoseBy}
-use Rattle.el_side.specs.Deeds.{Deed}
+use Rattle.el_outside.specs.Relays.{Offer}
+use Rattle.el_side.specs.Deeds.{Deed, offers, answered}
 use Rattle.el_outside.specs.Files.{AllGrow}
 use Rattle.el_outside.specs.Trace.{Trace, ArrivalWithBytes, opened, brought, closed, quiet, ended, Message, Closing, GoesOn, is_new, leaves as left_by, with_bytes, IsNextArrival}
 use Rattle.el_outside.specs.declared.link.Arrival.{Arrival}
 use Rattle.el_outside.specs.declared.link.Arrival.TheVariants as arrival
-use Rattle.el_side.proofs.Deeds.{all_rose_none, all_rose_on}
+use Rattle.el_side.proofs.Deeds.{all_rose_none, all_rose_on, offers_on}
 use Rattle.el_outside.proofs.Traces.{goes_none, goes_more, rose_more, rose_none, opened_is_open, new_unused}
 use Rattle.el_chain.specs.Chains.{Chain}
 use Rattle.el_world.specs.World.{World, new_session, after_hearing, events, without_node, without_client, AllTold}
@@ -21,6 +22,7 @@ use Rattle.el_lines.proofs.Cuts.{either}
 use Rattle.el_core.specs.State.{State, Stands}
 use Rattle.el_core.specs.Arrivals.{IsAfterArrival}
 use Rattle.el_loop.specs.Counts.{Counts, counts}
+use Rattle.el_loop.specs.Traffic.{Traffic, WentBy, WentTo}
 use Rattle.el_loop.specs.Runs.{taken, StatusesAreTold, IsHalted, NoneEnds, is_end, RunEnds, next_failed}
 use Rattle.el_loop.specs.declared.end.End.{End}
 use Rattle.el_loop.specs.declared.end.End.TheVariants as end
@@ -142,16 +144,16 @@ enters link_tells node old world a buf taken' last now before after is are law l
     taken_open node old s world next (with_bytes a buf) before after (rw is at then) (are t)
     (names_new a buf last now before (law t) lawful) (took t)
 
-module _ {G A K : Type 0} (of : AllGhosts G A K) where
+module _ {G A Y K : Type 0} (of : AllGhosts G A Y K) where
   -- the counts of a run between two snapshots
-  abbrev pub run_counts : ℕ → Snapshot G A K → Snapshot G A K → Counts
+  abbrev pub run_counts : ℕ → Snapshot G A Y K → Snapshot G A Y K → Counts
   run_counts turns before now =
       counts turns (of.link.calls before.link) (of.link.calls now.link)
       (failed of before)
       (failed of now)
 
   -- before the first arrival
-  pub going_none : (first : World) (node : Bool) (now : Snapshot G A K)
+  pub going_none : (first : World) (node : Bool) (now : Snapshot G A Y K)
       → Stands of.beneath.ledger.stands now.server first [] → first.sessions ≡ [] → now.server.surplus ≡ None
       → (of.beneath.files.tells → AllGrow first.side.files (of.beneath.files.bytes now.files))
       → Going of first node 0 now now
@@ -170,6 +172,7 @@ module _ {G A K : Type 0} (of : AllGhosts G A K) where
     went = record {
       trace = λ t. goes_none (of.link.trace now.link);
       rose = all_rose_none (failed of now);
+      offered = λ tells. sym (append-nil (answered (of.relay.offers now.relay)));
     };
     calls = rose_none (of.link.calls now.link);
     ready = record {
@@ -182,13 +185,13 @@ module _ {G A K : Type 0} (of : AllGhosts G A K) where
   }
 
   -- an arrival was taken, and this was done for it
-  went_further : (a : ArrivalWithBytes) (before mid : Snapshot G A K) (k : K) (now : Snapshot G A K)
+  went_further : (a : ArrivalWithBytes) (before mid : Snapshot G A Y K) (k : K) (now : Snapshot G A Y K)
       (arrivals : List ArrivalWithBytes) (messages more_messages : List Message)
       (closings more_closings : List Closing) (losses more_losses : List Deed)
       → WentOn of before mid arrivals messages closings losses
       → (of.link.tells → GoesOn (of.link.trace mid.link) (of.link.trace k) (a ∷ []) [] [])
       → of.link.faults k ≡ of.link.faults mid.link
-      → WentOn of (snapshot mid.server mid.files k) now [] more_messages more_closings
+      → WentOn of (snapshot mid.server mid.files mid.relay k) now [] more_messages more_closings
       more_losses
       → WentOn of before now (arrivals ++ a ∷ []) (messages ++ more_messages)
       (closings ++ more_closings) (losses ++ more_losses)
@@ -204,19 +207,23 @@ module _ {G A K : Type 0} (of : AllGhosts G A K) where
             simp append-nil at both;
         rose = all_rose_on (failed of before) (failed of mid)
             (failed of now) losses more_losses so_far.rose (rw same at then'.rose);
+        offered = λ tells.
+            let start = answered (of.relay.offers before.relay) in
+            then'.offered tells ∙ ap (λ (l : List Offer). l ++ offers more_losses) (so_far.offered tells)
+            ∙ append_assoc start (offers losses) (offers more_losses)
+            ∙ ap (λ (l : List Offer). start ++ l) (sym (offers_on losses more_losses));
       }
 
   -- the run stops in an arrival
   pub told_stopped : (leaves : Chain → Chain → Type 0) (first : World) (node : Bool) (count turns : ℕ)
-      (a : ArrivalWithBytes) (before mid : Snapshot G A K) (k : K) (now : Snapshot G A K) (stop : Stop)
+      (a : ArrivalWithBytes) (before mid : Snapshot G A Y K) (k : K) (now : Snapshot G A Y K) (stop : Stop)
       → first.sessions ≡ [] → (g : Going of first node count before mid)
       → (of.link.tells → GoesOn (of.link.trace mid.link) (of.link.trace k) (a ∷ []) [] [])
       → of.link.faults k ≡ of.link.faults mid.link
       → RoseBy (of.link.calls mid.link) (of.link.calls now.link) 1 → count < turns
       → StoppedIn of leaves g.world (taken_one node a) stop
-      (snapshot mid.server mid.files k) now
-      → (traffic : Trace) × (of.link.tells → GoesOn (of.link.trace before.link) (of.link.trace now.link)
-      traffic.arrivals traffic.messages traffic.closings)
+      (snapshot mid.server mid.files mid.relay k) now
+      → (traffic : Traffic) × WentBy of.link before.link now.link traffic × WentTo of.relay before.relay now.relay traffic
       × IsHalted of.beneath.files first node leaves (of.beneath.files.bytes now.files) (run_counts turns before now)
       traffic
       stop
@@ -246,8 +253,10 @@ module _ {G A K : Type 0} (of : AllGhosts G A K) where
           arrivals = g.arrivals ++ a ∷ [];
           messages = g.messages ++ f.messages;
           closings = g.closings ++ f.closings;
+          offers = offers (g.losses ++ f.losses);
         },
         went.trace,
+        went.offered,
         record {
           losses = g.losses ++ f.losses;
           halts = halts;
@@ -258,6 +267,7 @@ module _ {G A K : Type 0} (of : AllGhosts G A K) where
                 (length g.arrivals) 1 g.calls one);
             turns = let h = g.counted in simp length-append (omega arith);
             rose = rw (append-nil (g.losses ++ f.losses)) went.rose;
+            offered = refl;
           };
           last = record { front = g.arrivals; last = a; whole = refl; before = g.none_ends };
           flight = f.flight;
@@ -269,7 +279,7 @@ module _ {G A K : Type 0} (of : AllGhosts G A K) where
 
   -- a run after one more arrival
   pub record Further (first : World) (node : Bool) (count : ℕ) (a : ArrivalWithBytes)
-      (before now : Snapshot G A K) : Type 0 where
+      (before now : Snapshot G A Y K) : Type 0 where
     pub front : List ArrivalWithBytes
     pub messages : List Message
     pub closings : List Closing
@@ -286,13 +296,13 @@ module _ {G A K : Type 0} (of : AllGhosts G A K) where
     pub ready : IsReady of world now
 
   pub one_further : (first : World) (node : Bool) (count : ℕ) (a : ArrivalWithBytes)
-      (before mid : Snapshot G A K) (k : K) (now : Snapshot G A K)
+      (before mid : Snapshot G A Y K) (k : K) (now : Snapshot G A Y K)
       (g : Going of first node count before mid)
       → (of.link.tells → GoesOn (of.link.trace mid.link) (of.link.trace k) (a ∷ []) [] [])
       → of.link.faults k ≡ of.link.faults mid.link
       → RoseBy (of.link.calls mid.link) (of.link.calls now.link) 1
       → Finished of (after_hearing (taken_one node a) g.world)
-      (events g.world (taken_one node a)) (snapshot mid.server mid.files k) now
+      (events g.world (taken_one node a)) (snapshot mid.server mid.files mid.relay k) now
       → Further first node count a before now
   one_further first node count a before mid k now g took same one f = record {
     front = g.arrivals;
@@ -318,7 +328,7 @@ module _ {G A K : Type 0} (of : AllGhosts G A K) where
 
   -- the run goes on
   pub going_more : (first : World) (node : Bool) (count : ℕ) (a : ArrivalWithBytes)
-      (before now : Snapshot G A K) → Further first node count a before now → is_end a ≡ false
+      (before now : Snapshot G A Y K) → Further first node count a before now → is_end a ≡ false
       → Going of first node (count + 1) before now
   going_more first node count a before now f on = record {
     arrivals = f.front ++ a ∷ [];
@@ -338,23 +348,23 @@ module _ {G A K : Type 0} (of : AllGhosts G A K) where
   }
 
   -- what a run tells in the end
-  abbrev pub Told : World → Bool → (Chain → Chain → Type 0) → ℕ → Snapshot G A K → Snapshot G A K → End → Type
+  abbrev pub Told : World → Bool → (Chain → Chain → Type 0) → ℕ → Snapshot G A Y K → Snapshot G A Y K → End → Type
       0
-  Told first node leaves turns before now e = (traffic : Trace)
-      × (of.link.tells → GoesOn (of.link.trace before.link) (of.link.trace now.link)
-      traffic.arrivals traffic.messages traffic.closings)
+  Told first node leaves turns before now e = (traffic : Traffic)
+      × WentBy of.link before.link now.link traffic × WentTo of.relay before.relay now.relay traffic
       × RunEnds of.beneath.files first node leaves (of.beneath.files.bytes now.files) (run_counts turns before now)
       traffic e
 
   -- the last arrival ended the run
   pub told_ended : (leaves : Chain → Chain → Type 0) (first : World) (node : Bool) (count turns : ℕ)
-      (a : ArrivalWithBytes) (before now : Snapshot G A K)
+      (a : ArrivalWithBytes) (before now : Snapshot G A Y K)
       → ((chain : Chain) → of.beneath.ledger.stands now.server.ledger chain → leaves chain chain) → first.sessions ≡ []
       → Further first node count a before now → is_end a ≡ true → count < turns
       → Told first node leaves turns before now end.Ended
   told_ended leaves first node count turns a before now own nobody f stop lt = (
-    record { arrivals = f.front ++ a ∷ []; messages = f.messages; closings = f.closings },
+    record { arrivals = f.front ++ a ∷ []; messages = f.messages; closings = f.closings; offers = offers f.losses },
     f.went.trace,
+    f.went.offered,
     (
       record {
         losses = f.losses;
@@ -366,6 +376,7 @@ module _ {G A K : Type 0} (of : AllGhosts G A K) where
           calls = rw add-zero f.calls;
           turns = let h = f.counted in simp length-append (omega arith);
           rose = rw (append-nil f.losses) f.went.rose;
+          offered = refl;
         };
         acknowledged = λ sure. run_last_told nobody sure f.run;
         crash = λ sure. own f.world.side.chain (f.stood.chain (run_sure f.run ∙ sure));
@@ -376,13 +387,14 @@ module _ {G A K : Type 0} (of : AllGhosts G A K) where
 
   -- the turns are spent
   pub told_spent : (leaves : Chain → Chain → Type 0) (first : World) (node : Bool) (count turns : ℕ)
-      (before now : Snapshot G A K)
+      (before now : Snapshot G A Y K)
       → ((chain : Chain) → of.beneath.ledger.stands now.server.ledger chain → leaves chain chain) → first.sessions ≡ []
       → Going of first node count before now → count ≡ turns
       → Told first node leaves turns before now end.TurnsSpent
   told_spent leaves first node count turns before now own nobody g spent = (
-    record { arrivals = g.arrivals; messages = g.messages; closings = g.closings },
+    record { arrivals = g.arrivals; messages = g.messages; closings = g.closings; offers = offers g.losses },
     g.went.trace,
+    g.went.offered,
     (
       record {
         losses = g.losses;
@@ -394,6 +406,7 @@ module _ {G A K : Type 0} (of : AllGhosts G A K) where
           calls = rw add-zero g.calls;
           turns = let h = g.counted in omega arith;
           rose = rw (append-nil g.losses) g.went.rose;
+          offered = refl;
         };
         acknowledged = λ sure. run_last_told nobody sure g.run;
         crash = λ sure. own g.world.side.chain (g.stood.chain (run_sure g.run ∙ sure));
@@ -405,16 +418,17 @@ module _ {G A K : Type 0} (of : AllGhosts G A K) where
 
   -- a call of `next` failed
   pub told_failed : (leaves : Chain → Chain → Type 0) (first : World) (node : Bool) (count turns : ℕ)
-      (before mid : Snapshot G A K) (k : K)
+      (before mid : Snapshot G A Y K) (k : K)
       → ((chain : Chain) → of.beneath.ledger.stands mid.server.ledger chain → leaves chain chain) → first.sessions ≡ []
       → Going of first node count before mid
       → (of.link.tells → of.link.trace k ≡ of.link.trace mid.link)
       → RoseBy (of.link.faults mid.link) (of.link.faults k) 1
       → RoseBy (of.link.calls mid.link) (of.link.calls k) 1 → count < turns
-      → Told first node leaves turns before (snapshot mid.server mid.files k) end.LinkFailed
+      → Told first node leaves turns before (snapshot mid.server mid.files mid.relay k) end.LinkFailed
   told_failed leaves first node count turns before mid k own nobody g same rose one lt = (
-    record { arrivals = g.arrivals; messages = g.messages; closings = g.closings },
+    record { arrivals = g.arrivals; messages = g.messages; closings = g.closings; offers = offers g.losses },
     λ t. rw (same t) (g.went.trace t),
+    g.went.offered,
     inl (
       record {
         losses = g.losses;
@@ -428,9 +442,10 @@ module _ {G A K : Type 0} (of : AllGhosts G A K) where
           turns = let h = g.counted in omega arith;
           rose = all_rose_on (failed of before)
               (failed of mid)
-              (failed of (snapshot mid.server mid.files k)) g.losses next_failed
+              (failed of (snapshot mid.server mid.files mid.relay k)) g.losses next_failed
               g.went.rose (rose_next (of.link.faults mid.link) (of.link.faults k) (of.beneath.files.faults mid.files)
-              (of.beneath.ledger.faults mid.server.ledger) 0 rose);
+              (of.beneath.ledger.faults mid.server.ledger) (of.relay.faults mid.relay) rose);
+          offered = refl;
         };
         acknowledged = λ sure. run_last_told nobody sure g.run;
         crash = λ sure. own g.world.side.chain (g.stood.chain (run_sure g.run ∙ sure));
@@ -441,13 +456,12 @@ module _ {G A K : Type 0} (of : AllGhosts G A K) where
 
   -- how the run then ends
   pub told_halt : (first : World) (node : Bool) (leaves : Chain → Chain → Type 0) (turns : ℕ)
-      (before now : Snapshot G A K) (halt : Halt)
-      → ((traffic : Trace) × (of.link.tells → GoesOn (of.link.trace before.link) (of.link.trace now.link)
-      traffic.arrivals traffic.messages traffic.closings)
+      (before now : Snapshot G A Y K) (halt : Halt)
+      → ((traffic : Traffic) × WentBy of.link before.link now.link traffic × WentTo of.relay before.relay now.relay traffic
       × IsHalted of.beneath.files first node leaves (of.beneath.files.bytes now.files) (run_counts turns before now)
       traffic
       (stop_of halt))
       → Told first node leaves turns before now (end_of halt)
   told_halt first node leaves turns before now halt.Disk t = t
-  told_halt first node leaves turns before now halt.Link t = (t.0, t.1, inr t.2)
+  told_halt first node leaves turns before now halt.Link t = (t.0, t.1, t.2, inr t.3)
   told_halt first node leaves turns before now halt.Memory t = t

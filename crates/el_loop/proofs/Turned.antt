@@ -83,8 +83,8 @@ by_line tells trace world p bytes None outs losses next is t are =
     quiet_after trace world outs next (record { none = rw t.0 refl; same = rw t.1 refl }) are
 -- the reply may close the client, or change what is kept of it
 by_line tells trace world p bytes (Some session) outs losses next is
-    (replied reply kept comes outs_is next_is) are = elim (either reply.closes) [
-      | inl h ↦ shut trace world p why.Version outs next (found_client world.sessions p session is)
+    (replied reply kept desk comes outs_is next_is) are = elim (either reply.closes) [
+      | inl h ↦ shut trace (record world { desk = desk }) p why.Version outs next (found_client world.sessions p session is)
           (rw outs_is (rw h refl)) (rw next_is (rw h refl)) are
       | inr h ↦ record {
         sessions = rw next_is (rw h (all_same trace world.sessions p (record session { client = kept })
@@ -92,14 +92,14 @@ by_line tells trace world p bytes (Some session) outs losses next is
         closing = rw outs_is (rw h tt);
       }
     ]
-by_line tells trace world p bytes (Some session) outs losses next is (starved e kept comes outs_is next_is)
+by_line tells trace world p bytes (Some session) outs losses next is (starved e kept desk comes outs_is next_is)
     are =
-    shut trace world p why.Memory outs next (found_client world.sessions p session is) (rw outs_is refl)
-    next_is are
+    shut trace (record world { desk = desk }) p why.Memory outs next (found_client world.sessions p session is)
+    (rw outs_is refl) next_is are
 by_line tells trace world p bytes (Some session) outs losses next is
-    (uncounted reply kept comes more outs_is next_is) are =
-    shut trace world p why.Memory outs next (found_client world.sessions p session is) (rw outs_is refl)
-    next_is are
+    (uncounted reply kept desk comes more outs_is next_is) are =
+    shut trace (record world { desk = desk }) p why.Memory outs next (found_client world.sessions p session is)
+    (rw outs_is refl) next_is are
 
 first_said : (met : List LineEvent) (said : List Event) (p : ℕ) (rest : List Event)
     → joins p ∷ rest ≡ map orders met ++ said → joins p ∷ rest ≡ said
@@ -383,11 +383,11 @@ event_to_one of_files world (says p (line bytes)) outs losses next t =
         → ToOne outs
     line_to_one tells world p bytes None outs losses next t = (0, rw t.0 tt)
     line_to_one tells world p bytes (Some session) outs losses next
-        (replied reply kept comes outs_is next_is) = (p, rw outs_is (all_to p (option_to_list reply.text)))
+        (replied reply kept desk comes outs_is next_is) = (p, rw outs_is (all_to p (option_to_list reply.text)))
     line_to_one tells world p bytes (Some session) outs losses next
-        (starved e kept comes outs_is next_is) = (p, rw outs_is tt)
+        (starved e kept desk comes outs_is next_is) = (p, rw outs_is tt)
     line_to_one tells world p bytes (Some session) outs losses next
-        (uncounted reply kept comes more outs_is next_is) = (p, rw outs_is tt)
+        (uncounted reply kept desk comes more outs_is next_is) = (p, rw outs_is tt)
 event_to_one of_files world (says p too_long) outs losses next t = elim (either (is_client p world)) [
   | inl h ↦ let e = rw h at t in (0, rw e.0 tt)
   | inr h ↦ let e = rw h at t in (0, rw e.0 tt)

@@ -5,6 +5,7 @@ use Rattle.el_side.specs.Deeds as device
 use Rattle.el_side.specs.Deeds.{Device, Faults, faults}
 use Rattle.el_outside.specs.declared.archive.Archive as archive
 use Rattle.el_outside.specs.declared.link.Link as link
+use Rattle.el_outside.specs.declared.relay.Relay as relays
 use Rattle.el_loop.specs.declared.end.End.{End}
 use Rattle.el_loop.specs.declared.end.End.TheVariants as end
 
@@ -27,28 +28,31 @@ counts turns calls_before calls_after faults_before faults_after = record {
   faults_after = faults_after;
 }
 
--- The devices at some moment: the ledger's, or a ledger over it; the block files; and the link.
-pub record Devices (D A K : Type 0) : Type 0 where
+-- The devices at some moment: the ledger's, or a ledger over it; the block files; the relay; and the link.
+pub record Devices (D A Y K : Type 0) : Type 0 where
   pub disk : D
   pub files : A
+  pub relay : Y
   pub link : K
 
--- these three, as the devices at some moment
-abbrev pub devices : {D A K : Type 0} → D → A → K → Devices D A K
-devices disk files link = record { disk = disk; files = files; link = link }
+-- these four, as the devices at some moment
+abbrev pub devices : {D A Y K : Type 0} → D → A → Y → K → Devices D A Y K
+devices disk files relay link = record { disk = disk; files = files; relay = relay; link = link }
 
--- How often calls of the devices have failed; there is no relay. `disk_faults` tells it of the ledger's
--- device.
-abbrev pub faults_of : {D A K : Type 0} → (D → ℕ) → archive.Ghosts A → link.Ghosts K → Devices D A K → Faults
-faults_of disk_faults of_files of_link now =
-    faults (of_link.faults now.link) (of_files.faults now.files) (disk_faults now.disk) 0
+-- How often calls of the devices have failed. `disk_faults` tells it of the ledger's device.
+abbrev pub faults_of : {D A Y K : Type 0} → (D → ℕ) → archive.Ghosts A → relays.Ghosts Y → link.Ghosts K
+    → Devices D A Y K → Faults
+faults_of disk_faults of_files of_relay of_link now =
+    faults (of_link.faults now.link) (of_files.faults now.files) (disk_faults now.disk)
+    (of_relay.faults now.relay)
 
 -- How often calls of the devices were made, and failed, before so many turns and after them.
-abbrev pub counts_of : {D A K : Type 0} → (D → ℕ) → archive.Ghosts A → link.Ghosts K → ℕ
-    → Devices D A K → Devices D A K → Counts
-counts_of disk_faults of_files of_link turns before after =
+abbrev pub counts_of : {D A Y K : Type 0} → (D → ℕ) → archive.Ghosts A → relays.Ghosts Y → link.Ghosts K → ℕ
+    → Devices D A Y K → Devices D A Y K → Counts
+counts_of disk_faults of_files of_relay of_link turns before after =
     counts turns (of_link.calls before.link) (of_link.calls after.link)
-    (faults_of disk_faults of_files of_link before) (faults_of disk_faults of_files of_link after)
+    (faults_of disk_faults of_files of_relay of_link before)
+    (faults_of disk_faults of_files of_relay of_link after)
 
 -- the count rose by one at least, or stands at its greatest
 abbrev pub HasRisen : ℕ → ℕ → Type 0

@@ -1,3 +1,4 @@
 pub mod Counts
+pub mod Traffic
 pub mod Runs
 pub mod within

@@ -4,8 +4,7 @@ use Rattle.std.specs.List.{AllByRecursion}
 use Rattle.el_outside.specs.Counts.{RoseBy}
 use Rattle.el_outside.specs.Files.{AllGrow}
 use Rattle.el_outside.specs.declared.archive.Archive as archive
-use Rattle.el_outside.specs.declared.link.Link as links
-use Rattle.el_outside.specs.Trace.{Trace, GoesOn, ArrivalWithBytes, opened, brought, closed, quiet, ended}
+use Rattle.el_outside.specs.Trace.{ArrivalWithBytes, opened, brought, closed, quiet, ended}
 use Rattle.el_chain.specs.Chains.{Chain}
 use Rattle.el_side.specs.Side.{IsSure}
 use Rattle.el_subs.specs.Told.{AllTold, status}
@@ -15,8 +14,9 @@ use Rattle.el_side.specs.Deeds.{Deed, link}
 use Rattle.el_world.specs.Run.{Run, Halts, Stop, by_disk, by_link, by_memory, files_left}
 use Rattle.el_world.specs.Flights.{acked, Flies}
 use Rattle.el_world.specs.LastTold.{IsLastTold}
-use Rattle.el_side.specs.Deeds.{Rose}
+use Rattle.el_side.specs.Deeds.{Rose, offers}
 use Rattle.el_loop.specs.Counts.{Counts}
+use Rattle.el_loop.specs.Traffic.{Traffic}
 use Rattle.el_loop.specs.declared.end.End.{End}
 use Rattle.el_loop.specs.declared.end.End.TheVariants as end
 
@@ -47,25 +47,17 @@ pub record NoneEndsBefore (arrivals : List ArrivalWithBytes) : Type 0 where
   pub whole : arrivals ≡ front ++ last ∷ []
   pub before : NoneEnds front
 
--- what went over a link between the one moment and the other, where it tells
-abbrev pub WentBy : {K : Type 0} → links.Ghosts K → K → K → Trace → Type 0
-WentBy of_link before after t = of_link.tells
-    → GoesOn (of_link.trace before) (of_link.trace after) t.arrivals t.messages t.closings
-
--- nothing was taken, sent or closed
-abbrev pub no_traffic : Trace
-no_traffic = record { arrivals = []; messages = []; closings = [] }
-
 -- the last call of `next` failed
 abbrev pub next_failed : List Deed
 next_failed = deed.lost link ∷ []
 
 -- Each call of `next` brought an arrival, or failed. Each failed call of a device is one of those, or one
--- that something was answered or closed for.
-pub record IsCounted (c : Counts) (t : Trace) (losses failed : List Deed) : Type 0 where
+-- that something was answered or closed for. The relay was offered what was broadcast.
+pub record IsCounted (c : Counts) (t : Traffic) (losses failed : List Deed) : Type 0 where
   pub calls : RoseBy c.calls_before c.calls_after (length t.arrivals + length failed)
   pub turns : length t.arrivals + length failed ≤ c.turns
   pub rose : Rose c.faults_before c.faults_after (losses ++ failed)
+  pub offered : offers losses ≡ t.offers
 
 -- how arrivals are taken, with a node or without one
 abbrev pub taken : Bool → List ArrivalWithBytes → List ArrivalWithBytes
@@ -84,7 +76,7 @@ StatusesAreTold world = AllByRecursion
 -- other, which is in flight; acknowledged is the one that the node was told last. What is said of chains is
 -- said where the side of the first world is sure.
 pub record IsRun {A : Type 0} (of_files : archive.Ghosts A) (first : World) (node : Bool)
-    (leaves : Chain → Chain → Type 0) (files : ℕ → List ℕ) (c : Counts) (t : Trace) (failed : List Deed)
+    (leaves : Chain → Chain → Type 0) (files : ℕ → List ℕ) (c : Counts) (t : Traffic) (failed : List Deed)
     : Type 0 where
   pub losses : List Deed
   pub world : World
@@ -98,7 +90,7 @@ pub record IsRun {A : Type 0} (of_files : archive.Ghosts A) (first : World) (nod
 -- The traffic is that of a run that stopped so in its last arrival. `files` are the block files as they are
 -- in the end: they have all that each turn had of them.
 pub record IsHalted {A : Type 0} (of_files : archive.Ghosts A) (first : World) (node : Bool)
-    (leaves : Chain → Chain → Type 0) (files : ℕ → List ℕ) (c : Counts) (t : Trace) (stop : Stop)
+    (leaves : Chain → Chain → Type 0) (files : ℕ → List ℕ) (c : Counts) (t : Traffic) (stop : Stop)
     : Type 0 where
   pub losses : List Deed
   pub halts : Halts of_files first stop (taken node t.arrivals) t.messages t.closings losses
@@ -110,9 +102,9 @@ pub record IsHalted {A : Type 0} (of_files : archive.Ghosts A) (first : World) (
   pub acknowledged : IsSure first.side → IsLastTold first.side.chain t.messages (acked halts.stops)
   pub crash : IsSure first.side → leaves (acked halts.stops) flight
 
--- How a run ends.
+-- How a run ends, and with which traffic: each end in its own way.
 abbrev pub RunEnds : {A : Type 0} → archive.Ghosts A → World → Bool → (Chain → Chain → Type 0)
-    → (ℕ → List ℕ) → Counts → Trace → End → Type 0
+    → (ℕ → List ℕ) → Counts → Traffic → End → Type 0
 -- nothing comes any more, or peer 0 left
 RunEnds of_files first node leaves files c t end.Ended =
     IsRun of_files first node leaves files c t [] × LastEnds t.arrivals

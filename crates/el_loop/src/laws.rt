@@ -1,6 +1,6 @@
 // What holds of runs.
 ghost use Rattle.std.specs.Prelude.{◌≡◌, ℕ, List, [], Bool};
-ghost use Rattle.el_outside.specs.Trace.{Trace};
+ghost use Rattle.el_loop.specs.Traffic.{Traffic};
 ghost use Rattle.el_model.specs.Keeping.{LeavesEither};
 ghost use Rattle.el_world.specs.World.{World};
 ghost use Rattle.el_world.specs.Run.{Stop, files_left};
@@ -14,7 +14,7 @@ use el_outside::Archive;
 /// bytes of it.
 pub fn no_block_is_invented<G: Ledger, A: Archive>()
     ensures none_had { (first : World) (node : Bool) (ledger : G) (files : ℕ → List ℕ) (c : Counts)
-        (t : Trace) (stop : Stop)
+        (t : Traffic) (stop : Stop)
         (h : IsHalted ⟦<A as Archive>⟧ first node
         (LeavesEither G.tells_crash G.means G.moment G.left_since ledger) files c t stop)
         → A.tells → (file : ℕ) → files file ≡ [] → files_left h.halts.stops file ≡ [] }

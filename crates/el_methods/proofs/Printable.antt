@@ -8,7 +8,7 @@ use Rattle.el_chain.specs.declared.coin.Coin.{Coin}
 use Rattle.el_chain.specs.declared.entry.Entry.{Entry}
 use Rattle.el_mempool.specs.declared.entry.PoolEntry.{PoolEntry}
 use Rattle.el_methods.specs.Results.{hashes, proof_value, headers_proof, place_value, id_with_branch, coin_value}
-use Rattle.el_methods.specs.Results.{pool_value, both_values}
+use Rattle.el_methods.specs.Results.{pool_value, both_values, edge_value}
 
 pub of_hashes : (hs : List Hash32) → has_float (hashes hs) ≡ false
 of_hashes [] = refl
@@ -48,3 +48,7 @@ of_both (c ∷ cs) es = of_both cs es
 pub of_coins : (cs : List Coin) → items_have_float (items_of (map coin_value cs)) ≡ false
 of_coins [] = refl
 of_coins (c ∷ cs) = of_coins cs
+
+pub of_edges : (rows : List (ℕ × ℕ)) → items_have_float (items_of (map edge_value rows)) ≡ false
+of_edges [] = refl
+of_edges (r ∷ rs) = of_edges rs

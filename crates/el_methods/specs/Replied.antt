@@ -37,7 +37,7 @@ abbrev pub with_headers : Session → Result (Data × Bool) Refusal → Result (
 with_headers s (Ok answer) = Ok (answer.0, record s { headers = answer.1 })
 with_headers s (Err r) = Err r
 
--- it has other subscriptions
+-- the session has the subscriptions that come with the answer; where the call is refused, the refusal
 abbrev pub with_subscriptions :
     Session → Result (Data × List Subscription) Refusal → Result (Data × Session) Refusal
 with_subscriptions s (Ok answer) = Ok (answer.0, record s { subs = answer.1 })
@@ -83,13 +83,13 @@ replied chain kept found s (call.ListUnspent script_hash) =
     with_session s (result.list_unspent chain kept script_hash.0)
 replied chain kept found s (call.ScriptHashSubscribe script_hash) =
     with_subscriptions s (result.script_hash_subscribe chain kept s.subs script_hash)
-replied chain kept found s call.Broadcast = Err refusal.NoRelay
+replied chain kept found s (call.Broadcast bytes) = Err refusal.NoRelay
 replied chain kept found s (call.TransactionGet id verbose) =
     with_session s (result.transaction_get chain kept id verbose)
 replied chain kept found s (call.GetMerkle id height) = with_session s (result.get_merkle chain id height)
 replied chain kept found s (call.IdFromPos height pos merkle) =
     with_session s (result.id_from_pos chain height pos merkle)
-replied chain kept found s call.FeeHistogram = Ok (array no_items, s)
+replied chain kept found s call.FeeHistogram = Ok (result.fee_histogram chain kept, s)
 
 -- the answer is read from the chain or from the unconfirmed set
 abbrev pub reads_chain : Call → Bool
@@ -104,6 +104,7 @@ reads_chain (call.ScriptHashSubscribe script_hash) = true
 reads_chain (call.TransactionGet id verbose) = not verbose
 reads_chain (call.GetMerkle id height) = true
 reads_chain (call.IdFromPos height pos merkle) = true
+reads_chain call.FeeHistogram = true
 reads_chain c = false
 
 -- For which reasons such a call may be refused, whatever the chain and the unconfirmed set are.
@@ -148,7 +149,7 @@ IsOwnAnswer chain id (Err stop.Archive) = find_tx chain id ≢ None
 IsOwnAnswer chain id (Err stop.Changed) = find_tx chain id ≢ None
 IsOwnAnswer chain id (Err stop.Memory) = ⊤
 
--- the same of the transaction that the call asks for, where it asks for one
+-- what may be given of the transaction that the call asks for, where it asks for one
 abbrev pub GivesOwn : Chain → Call → Result Data Stop → Type 0
 GivesOwn chain (call.TransactionGet id verbose) given = IsOwnAnswer chain id given
 GivesOwn chain c given = ⊤

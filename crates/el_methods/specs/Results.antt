@@ -3,7 +3,7 @@
 use Rattle.std.specs.Prelude.{ℕ, ℤ, ◌+◌, ◌-◌, ◌==◌, min, nat_lt, nat_le, ◌||◌, ◌&&◌, not, Bool, true, false, if◌then◌else◌, List, [], ◌∷◌, ◌++◌, length, take, drop, map, flat_map, slice_get, Option, None, Some, option_map, ok_or, Result, Ok, Err, codes}
 use Rattle.std.specs.Option.{option_or, is_some}
 use Rattle.hex.specs.Hex.{encode_lower}
-use Rattle.serde_json.specs.Data.{Data, null, number, string, array, object, unsigned, Members, no_members, put}
+use Rattle.serde_json.specs.Data.{Data, null, number, string, array, item, no_items, object, unsigned, Members, no_members, put}
 use Rattle.serde_json.specs.Find.{of_integer}
 use Rattle.serde_json.specs.View.{items_of}
 use Rattle.el_base.specs.declared.hash.Hash32.{Hash32}
@@ -21,6 +21,7 @@ use Rattle.el_chain.specs.declared.entry.Entry.{Entry}
 use Rattle.el_chain.specs.declared.node.Node.{Node}
 use Rattle.el_chain.specs.declared.placed.Placed.{Placed}
 use Rattle.el_mempool.specs.declared.entry.PoolEntry.{PoolEntry}
+use Rattle.el_mempool.specs.Fees.{histogram}
 use Rattle.el_mempool.specs.Refusals.{kept_with}
 use Rattle.el_mempool.specs.Unconfirmed.{pool_history}
 use Rattle.el_status.specs.Statuses.{status}
@@ -310,3 +311,13 @@ abbrev pub features : List Node → Result Data Refusal
 features found = do
   first ← ok_or (genesis found) refusal.NoBlocks
   Ok (features_value first.hash)
+
+-- 10. mempool.get_fee_histogram
+
+-- an edge of fee rates, and the sum of the sizes of those that have it
+abbrev pub edge_value : ℕ × ℕ → Data
+edge_value row = array (item (whole row.0) (item (whole row.1) no_items))
+
+-- the fee histogram of the kept transactions, by falling edge
+abbrev pub fee_histogram : Chain → List Tx → Data
+fee_histogram chain kept = array (items_of (map edge_value (histogram chain kept)))

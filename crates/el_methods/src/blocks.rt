@@ -199,15 +199,18 @@ pub fn block_headers<G: Ledger>(
     cp_height: u64,
 ) -> Result<Answer, Stop>
     requires live { G.is_live ledger.old }
+
     ensures answer { (chain : Chain) → G.stands ledger.old chain → CachesStand caches.old chain chain
         → IsAnswer (defined.block_headers chain start_height count cp_height) result }
-    ensures refusals { RefusesOnly (λ r. r ≡ refusal.BadCheckpoint) result }
     ensures printable { IsPrintableAnswer result }
     ensures rows { (chain : Chain) → G.stands ledger.old chain → CachesStand caches.old chain chain
         → G.reads ledger.new ≤ G.reads ledger.old
         + (header_count chain start_height count + proof_rows cp_height) }
+
     ensures caches { CachesStay ⟦<G as Ledger>⟧ ledger.old caches.old caches.new }
     ensures quiet { Asked ⟦<G as Ledger>⟧ ledger.old ledger.new }
+
+    ensures refusals { RefusesOnly (λ r. r ≡ refusal.BadCheckpoint) result }
     ensures counted { IsDiskCounted (λ n. RoseBy (G.faults ledger.old) (G.faults ledger.new) n) result }
 {
     let top = ledger.height();
@@ -251,13 +254,16 @@ pub fn headers_subscribe<G: Ledger>(
     is_told: &mut bool,
 ) -> Result<Answer, Stop>
     requires live { G.is_live ledger.old }
+
     ensures answer { (chain : Chain) → G.stands ledger.old chain
         → IsReplyWith (told_tip (defined.headers_subscribe chain)) is_told.old is_told.new result }
-    ensures refusals { RefusesOnly (λ r. r ≡ refusal.NoBlocks) result }
-    ensures unanswered { OnErr result (is_told.new ≡ is_told.old) }
     ensures printable { IsPrintableAnswer result }
-    ensures rows { G.reads ledger.new ≤ G.reads ledger.old + 1 }
+
+    ensures unanswered { OnErr result (is_told.new ≡ is_told.old) }
     ensures quiet { Asked ⟦<G as Ledger>⟧ ledger.old ledger.new }
+
+    ensures refusals { RefusesOnly (λ r. r ≡ refusal.NoBlocks) result }
+    ensures rows { G.reads ledger.new ≤ G.reads ledger.old + 1 }
     ensures counted { IsDiskCounted (λ n. RoseBy (G.faults ledger.old) (G.faults ledger.new) n) result }
 {
     let Some(height) = ledger.height() else {

@@ -143,14 +143,17 @@ pub fn block_header<G: Ledger>(
     cp_height: u64,
 ) -> Result<Answer, Stop>
     requires live { G.is_live ledger.old }
+
     ensures answer { (chain : Chain) → G.stands ledger.old chain → CachesStand caches.old chain chain
         → IsAnswer (defined.block_header chain height cp_height) result }
-    ensures refusals { RefusesOnly (λ r. (r ≡ refusal.NoSuchHeight) ⊎ (r ≡ refusal.BadCheckpoint)) result }
     ensures printable { IsPrintableAnswer result }
     ensures rows { (chain : Chain) → G.stands ledger.old chain → CachesStand caches.old chain chain
         → G.reads ledger.new ≤ G.reads ledger.old + (1 + proof_rows cp_height) }
+
     ensures caches { CachesStay ⟦<G as Ledger>⟧ ledger.old caches.old caches.new }
     ensures quiet { Asked ⟦<G as Ledger>⟧ ledger.old ledger.new }
+
+    ensures refusals { RefusesOnly (λ r. (r ≡ refusal.NoSuchHeight) ⊎ (r ≡ refusal.BadCheckpoint)) result }
     ensures counted { IsDiskCounted (λ n. RoseBy (G.faults ledger.old) (G.faults ledger.new) n) result }
 {
     let top = ledger.height();

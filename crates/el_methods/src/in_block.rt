@@ -49,14 +49,17 @@ pub fn get_merkle<G: Ledger>(
     height: u64,
 ) -> Result<Answer, Stop>
     requires live { G.is_live ledger.old }
+
     ensures answer { (chain : Chain) → G.stands ledger.old chain → CachesStand caches.old chain chain
         → IsAnswer (defined.get_merkle chain id.now height) result }
-    ensures refusals { RefusesOnly (λ r. (r ≡ refusal.NoSuchHeight) ⊎ (r ≡ refusal.NotInThatBlock)) result }
     ensures printable { IsPrintableAnswer result }
     ensures rows { (chain : Chain) → G.stands ledger.old chain
         → G.reads ledger.new ≤ G.reads ledger.old + ids_rows (txids_at chain height) }
+
     ensures caches { CachesStay ⟦<G as Ledger>⟧ ledger.old caches.old caches.new }
     ensures quiet { Asked ⟦<G as Ledger>⟧ ledger.old ledger.new }
+
+    ensures refusals { RefusesOnly (λ r. (r ≡ refusal.NoSuchHeight) ⊎ (r ≡ refusal.NotInThatBlock)) result }
     ensures counted { IsDiskCounted (λ n. RoseBy (G.faults ledger.old) (G.faults ledger.new) n) result }
 {
     let Some(h) = height_within(ledger.height(), height) else {
@@ -157,14 +160,17 @@ pub fn id_from_pos<G: Ledger>(
     merkle: bool,
 ) -> Result<Answer, Stop>
     requires live { G.is_live ledger.old }
+
     ensures answer { (chain : Chain) → G.stands ledger.old chain → CachesStand caches.old chain chain
         → IsAnswer (defined.id_from_pos chain height tx_pos merkle) result }
-    ensures refusals { RefusesOnly (λ r. (r ≡ refusal.NoSuchHeight) ⊎ (r ≡ refusal.NoSuchPosition)) result }
     ensures printable { IsPrintableAnswer result }
     ensures rows { (chain : Chain) → G.stands ledger.old chain
         → G.reads ledger.new ≤ G.reads ledger.old + ids_rows (txids_at chain height) }
+
     ensures caches { CachesStay ⟦<G as Ledger>⟧ ledger.old caches.old caches.new }
     ensures quiet { Asked ⟦<G as Ledger>⟧ ledger.old ledger.new }
+
+    ensures refusals { RefusesOnly (λ r. (r ≡ refusal.NoSuchHeight) ⊎ (r ≡ refusal.NoSuchPosition)) result }
     ensures counted { IsDiskCounted (λ n. RoseBy (G.faults ledger.old) (G.faults ledger.new) n) result }
 {
     let Some(h) = height_within(ledger.height(), height) else {

@@ -4,6 +4,7 @@
 mod answering;
 mod blocks;
 mod features;
+mod fees;
 mod headers;
 mod in_block;
 mod laws;

@@ -46,14 +46,17 @@ pub fn get_balance<G: Ledger>(
     s: &Hash32,
 ) -> Result<Answer, Stop>
     requires live { G.is_live ledger.old }
+
     ensures answer { (chain : Chain) (kept : List shape.Tx) → G.stands ledger.old chain
         → StandsFor pool.now.entries chain kept
         → IsAnswer (Ok (defined.balance_value (view.balance chain kept s.now.0))) result }
-    ensures refusals { RefusesOnly (λ r. ⊥) result }
     ensures printable { IsPrintableAnswer result }
     ensures rows { (chain : Chain) → G.stands ledger.old chain
         → G.reads ledger.new ≤ G.reads ledger.old + script_rows chain (G.buckets ledger.old) s.now.0 }
+
     ensures quiet { Asked ⟦<G as Ledger>⟧ ledger.old ledger.new }
+
+    ensures refusals { RefusesOnly (λ r. ⊥) result }
     ensures counted { IsDiskCounted (λ n. RoseBy (G.faults ledger.old) (G.faults ledger.new) n) result }
 {
     match view_balance(ledger, pool, s) {
@@ -140,14 +143,17 @@ pub fn get_history<G: Ledger>(
     s: &Hash32,
 ) -> Result<Answer, Stop>
     requires live { G.is_live ledger.old }
+
     ensures answer { (chain : Chain) (kept : List shape.Tx) → G.stands ledger.old chain
         → StandsFor pool.now.entries chain kept
         → IsAnswer (defined.get_history chain kept s.now.0) result }
-    ensures refusals { RefusesOnly (λ r. r ≡ refusal.HistoryTooLarge) result }
     ensures printable { IsPrintableAnswer result }
     ensures rows { (chain : Chain) → G.stands ledger.old chain
         → G.reads ledger.new ≤ G.reads ledger.old + history_rows chain (G.buckets ledger.old) s.now.0 }
+
     ensures quiet { Asked ⟦<G as Ledger>⟧ ledger.old ledger.new }
+
+    ensures refusals { RefusesOnly (λ r. r ≡ refusal.HistoryTooLarge) result }
     ensures counted { IsDiskCounted (λ n. RoseBy (G.faults ledger.old) (G.faults ledger.new) n) result }
 {
     let (confirmed, unconfirmed) = match view_history(alloc, ledger, pool, s) {
@@ -176,8 +182,9 @@ fn pool_entries_value(alloc: Global, entries: &[PoolEntry]) -> Result<Answer, Ou
 pub fn get_mempool(alloc: Global, pool: &Pool, s: &Hash32) -> Result<Answer, Stop>
     ensures answer { (chain : Chain) (kept : List shape.Tx) → StandsFor pool.now.entries chain kept
         → IsAnswer (defined.get_mempool chain kept s.now.0) result }
-    ensures refusals { RefusesOnly (λ r. r ≡ refusal.HistoryTooLarge) result }
     ensures printable { IsPrintableAnswer result }
+
+    ensures refusals { RefusesOnly (λ r. r ≡ refusal.HistoryTooLarge) result }
     ensures counted { IsDiskCounted (λ n. n ≡ 0) result }
 {
     let entries = pool.entries(s)?;
@@ -224,14 +231,17 @@ pub fn list_unspent<G: Ledger>(
     s: &Hash32,
 ) -> Result<Answer, Stop>
     requires live { G.is_live ledger.old }
+
     ensures answer { (chain : Chain) (kept : List shape.Tx) → G.stands ledger.old chain
         → StandsFor pool.now.entries chain kept
         → IsAnswer (defined.list_unspent chain kept s.now.0) result }
-    ensures refusals { RefusesOnly (λ r. r ≡ refusal.HistoryTooLarge) result }
     ensures printable { IsPrintableAnswer result }
     ensures rows { (chain : Chain) → G.stands ledger.old chain
         → G.reads ledger.new ≤ G.reads ledger.old + unspent_rows chain (G.buckets ledger.old) s.now.0 }
+
     ensures quiet { Asked ⟦<G as Ledger>⟧ ledger.old ledger.new }
+
+    ensures refusals { RefusesOnly (λ r. r ≡ refusal.HistoryTooLarge) result }
     ensures counted { IsDiskCounted (λ n. RoseBy (G.faults ledger.old) (G.faults ledger.new) n) result }
 {
     let coins = match view_unspent(alloc, ledger, pool, s) {

@@ -46,17 +46,20 @@ pub fn script_hash_subscribe<G: Ledger>(
     s: Hash32,
 ) -> Result<Answer, Stop>
     requires live { G.is_live ledger.old }
+
     ensures answer { (chain : Chain) (kept : List shape.Tx) → G.stands ledger.old chain
         → StandsFor pool.now.entries chain kept
         → IsReplyWith (defined.script_hash_subscribe chain kept subs.old s) subs.old subs.new result }
+    ensures printable { IsPrintableAnswer result }
+
     ensures edits { Edits subs.old subs.new }
+    ensures unanswered { OnErr result (subs.new ≡ subs.old) }
+    ensures quiet { Asked ⟦<G as Ledger>⟧ ledger.old ledger.new }
+
     ensures refusals { RefusesOnly (λ r. (r ≡ refusal.TooManySubscriptions)
         × (is_one_too_many subs.old s ≡ true)) result }
-    ensures unanswered { OnErr result (subs.new ≡ subs.old) }
-    ensures printable { IsPrintableAnswer result }
     ensures rows { (chain : Chain) → G.stands ledger.old chain
         → G.reads ledger.new ≤ G.reads ledger.old + history_rows chain (G.buckets ledger.old) s.0 }
-    ensures quiet { Asked ⟦<G as Ledger>⟧ ledger.old ledger.new }
     ensures counted { IsDiskCounted (λ n. RoseBy (G.faults ledger.old) (G.faults ledger.new) n) result }
 {
     if subs.held() >= SUBSCRIPTION_LIMIT && !subs.holds(&s) {

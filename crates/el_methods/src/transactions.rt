@@ -141,6 +141,7 @@ pub fn transaction_get<G: Ledger, A: Archive>(
     verbose: bool,
 ) -> Result<Answer, Stop>
     requires live { G.is_live ledger.old }
+
     // Where the block files have the chain's transaction at its place.
     ensures answer { (chain : Chain) (kept : List tx_shape.Tx) → G.stands ledger.old chain
         → StandsFor pool.now.entries chain kept → A.tells → HasTransaction (A.bytes archive.new) chain id
@@ -155,6 +156,13 @@ pub fn transaction_get<G: Ledger, A: Archive>(
     ensures own { (chain : Chain) (kept : List tx_shape.Tx) → G.stands ledger.old chain
         → StandsFor pool.now.entries chain kept → is_in_files kept id verbose ≡ true
         → IsOwnAnswer chain id result }
+    ensures printable { IsPrintableAnswer result }
+    ensures rows { (chain : Chain) → G.stands ledger.old chain
+        → G.reads ledger.new ≤ G.reads ledger.old + (2 + txs_in_bucket chain (G.buckets ledger.old) id.0) }
+
+    ensures quiet { Asked ⟦<G as Ledger>⟧ ledger.old ledger.new }
+    ensures grows { A.tells → AllGrow (A.bytes archive.old) (A.bytes archive.new) }
+
     ensures unchanged { (chain : Chain) → G.stands ledger.old chain → A.tells
         → HasTransaction (A.bytes archive.new) chain id → result ≢ Err stop.Changed }
     // Only where the bytes that stand at the transaction's place are not its own.
@@ -163,11 +171,6 @@ pub fn transaction_get<G: Ledger, A: Archive>(
         × HasChanged spot id (seen ⟦<A as Archive>⟧ archive.new spot.place.file)) }
     ensures refusals { verbose ≡ false → RefusesOnly (λ r. r ≡ refusal.NoSuchTransaction) result }
     ensures verbose { verbose ≡ true → result ≡ Err (stop.Refused refusal.VerboseNotServed) }
-    ensures printable { IsPrintableAnswer result }
-    ensures rows { (chain : Chain) → G.stands ledger.old chain
-        → G.reads ledger.new ≤ G.reads ledger.old + (2 + txs_in_bucket chain (G.buckets ledger.old) id.0) }
-    ensures quiet { Asked ⟦<G as Ledger>⟧ ledger.old ledger.new }
-    ensures grows { A.tells → AllGrow (A.bytes archive.old) (A.bytes archive.new) }
     ensures counted { IsCounted (λ n. RoseBy (G.faults ledger.old) (G.faults ledger.new) n)
         (λ n. RoseBy (A.faults archive.old) (A.faults archive.new) n) result }
 {

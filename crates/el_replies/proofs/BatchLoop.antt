@@ -5,7 +5,7 @@ use Rattle.el_json.specs.declared.request.Request.{Request}
 use Rattle.el_json.specs.declared.request.Item.{Item}
 use Rattle.el_calls.specs.declared.refusal.Refusal.{Refusal}
 use Rattle.el_sessions.specs.declared.session.Session.{Session}
-use Rattle.el_replies.specs.Batches.{Replies, Step, Steps, CutSteps, Completes, CutCompletes}
+use Rattle.el_replies.specs.Batches.{Replies, Step, Steps, CutStep, CutSteps, Completes, CutCompletes}
 
 module _ {X : Type 0} (answers : X → Request → Session → Result Data Refusal → X → Session → Type 0) where
   pub begins : (left all : List Item) (x : X) (s : Session) (b : Replies) → left ≡ all
@@ -43,7 +43,7 @@ module _ {X : Type 0} (answers : X → Request → Session → Result Data Refus
 
   pub cut_here : (i : Item) (left rest all : List Item) (x y : X) (s : Session) (b : Replies)
       (x0 : X) (s0 : Session) (b0 : Replies) → left ≡ i ∷ rest
-      → CutCompletes answers left x s b all x0 s0 b0 → y ≡ x → CutSteps answers all x0 s0 b0 y
-  cut_here i left rest all x y s b x0 s0 b0 is before same =
+      → CutCompletes answers left x s b all x0 s0 b0 → CutStep answers i x s b y → CutSteps answers all x0 s0 b0 y
+  cut_here i left rest all x y s b x0 s0 b0 is before cut =
       let P : List Item → Type 0 = λ es. CutSteps answers es x s b y in
-      before y (subst P (sym is) (inl same))
+      before y (subst P (sym is) (inl cut))

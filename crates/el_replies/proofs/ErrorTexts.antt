@@ -37,10 +37,14 @@ short_start refusal.NotInThatBlock = omega arith
 short_start refusal.NoSuchPosition = omega arith
 short_start refusal.VersionAgreed = omega arith
 short_start refusal.VersionNotShared = omega arith
+short_start refusal.NotTransaction = omega arith
+short_start refusal.CoinbaseNotRelayed = omega arith
+short_start refusal.RefusedByRelay = omega arith
 short_start refusal.NoRelay = omega arith
 short_start refusal.DiskFailed = omega arith
 short_start refusal.ArchiveFailed = omega arith
 short_start refusal.ArchiveChanged = omega arith
+short_start refusal.RelayFailed = omega arith
 
 -- a code has 64 bits
 pub same_code : (r : Refusal) → to_z w64 (of_z w64 (code_of r)) ≡ code_of r
@@ -60,10 +64,14 @@ same_code refusal.NotInThatBlock = refl
 same_code refusal.NoSuchPosition = refl
 same_code refusal.VersionAgreed = refl
 same_code refusal.VersionNotShared = refl
+same_code refusal.NotTransaction = refl
+same_code refusal.CoinbaseNotRelayed = refl
+same_code refusal.RefusedByRelay = refl
 same_code refusal.NoRelay = refl
 same_code refusal.DiskFailed = refl
 same_code refusal.ArchiveFailed = refl
 same_code refusal.ArchiveChanged = refl
+same_code refusal.RelayFailed = refl
 
 -- it is the compact text of the reply
 pub error_printed : (id : Data) (r : Refusal) → error_text (compact_text id) r ≡ compact_text (reply_value id (Err r))
@@ -84,10 +92,14 @@ error_printed id refusal.NotInThatBlock = refl
 error_printed id refusal.NoSuchPosition = refl
 error_printed id refusal.VersionAgreed = refl
 error_printed id refusal.VersionNotShared = refl
+error_printed id refusal.NotTransaction = refl
+error_printed id refusal.CoinbaseNotRelayed = refl
+error_printed id refusal.RefusedByRelay = refl
 error_printed id refusal.NoRelay = refl
 error_printed id refusal.DiskFailed = refl
 error_printed id refusal.ArchiveFailed = refl
 error_printed id refusal.ArchiveChanged = refl
+error_printed id refusal.RelayFailed = refl
 
 -- what is added to a batch, and the message, are those of the reply
 added_error : (id : Option Data) (room : Option (List ℕ)) (r : Refusal) (b c d : Replies)

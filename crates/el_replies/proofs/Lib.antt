@@ -1,5 +1,6 @@
 mod BatchLoop
+mod Broadcasting
 mod ErrorTexts
-mod Losing
+pub mod Losing
 mod LineEnds
 mod Reading

@@ -1,7 +1,7 @@
 -- Batches of requests (JSON-RPC 2.0, section 6): one reply after the other, until their texts have too many
 -- bytes.
 use Rattle.std.specs.Prelude.{◌≡◌, ◌⊎◌, ℕ, ◌+◌, ◌||◌, nat_lt, Bool, true, false, if◌then◌else◌, MatchBool}
-use Rattle.std.specs.Prelude.{List, [], ◌∷◌, ◌++◌, length, Option, Some, None, Result, Err}
+use Rattle.std.specs.Prelude.{List, [], ◌∷◌, ◌++◌, length, Option, Some, None, Result, Ok, Err}
 use Rattle.serde_json.specs.Data.{Data}
 use Rattle.serde_json.specs.Written.{compact_text}
 use Rattle.el_json.specs.declared.request.Request.{Request}
@@ -48,7 +48,8 @@ with_reply (Some id) answered b = added (compact_text (reply_value id answered))
 
 -- `answers` says how a request may be answered in a state, and which state comes of it.
 module _ {X : Type 0} (answers : X → Request → Session → Result Data Refusal → X → Session → Type 0) where
-  -- a request before the limit was passed
+  -- A request before the limit was passed: its answer is one of those that there may be, and its reply is
+  -- added.
   abbrev pub InTime : Request → X → Session → Replies → X → Session → Replies → Type 0
   InTime r x s b y t c =
       (answered : Result Data Refusal) × answers x r s answered y t × (c ≡ with_reply r.id answered b)
@@ -61,19 +62,28 @@ module _ {X : Type 0} (answers : X → Request → Session → Result Data Refus
       (InTime r x s b y t c)
   Step (Invalid id) x s b y t c = (y ≡ x) × (t ≡ s) × (c ≡ with_reply (Some id) (Err refusal.Invalid) b)
 
-  -- the elements in order
+  -- the elements in order, each in the state that the one before it left
   abbrev pub Steps : List Item → X → Session → Replies → X → Session → Replies → Type 0
   Steps [] x s b y t c = (y ≡ x) × (t ≡ s) × (c ≡ b)
   Steps (i ∷ is) x s b y t c =
       (between : X) × (session : Session) × (replies : Replies) × Step i x s b between session replies
       × Steps is between session replies y t c
 
-  -- Memory ran out at one of the elements, after those before it were answered. That one loses nothing: there
-  -- is room to tell it of a device that fails before a device is asked.
+  -- Memory ran out in a request: it did nothing, or it was answered a result, for which there was no room.
+  abbrev pub CutAnswer : Request → X → Session → X → Type 0
+  CutAnswer r x s y = (y ≡ x) ⊎ ((found : Data) × (t : Session) × answers x r s (Ok found) y t)
+
+  -- memory ran out at an element
+  abbrev pub CutStep : Item → X → Session → Replies → X → Type 0
+  CutStep (Good r) x s b y = MatchBool (nat_lt BATCH_LIMIT b.size) (y ≡ x) (CutAnswer r x s y)
+  CutStep (Invalid id) x s b y = y ≡ x
+
+  -- Memory ran out at one of the elements, after those before it were answered. There is room to tell of a
+  -- device that fails before a device is asked.
   abbrev pub CutSteps : List Item → X → Session → Replies → X → Type 0
   CutSteps [] x s b y = ⊥
   CutSteps (i ∷ is) x s b y =
-      (y ≡ x)
+      CutStep i x s b y
       ⊎ ((between : X) × (session : Session) × (replies : Replies) × Step i x s b between session replies
       × CutSteps is between session replies y)
 
@@ -83,7 +93,7 @@ module _ {X : Type 0} (answers : X → Request → Session → Result Data Refus
   Completes left y t c all x s b =
       (z : X) (u : Session) (d : Replies) → Steps answers left y t c z u d → Steps answers all x s b z u d
 
-  -- also where memory runs out
+  -- Where memory runs out among the elements that are left, it runs out among all of them.
   abbrev pub CutCompletes : List Item → X → Session → Replies → List Item → X → Session → Replies → Type 0
   CutCompletes left y t c all x s b =
       (z : X) → CutSteps answers left y t c z → CutSteps answers all x s b z

@@ -1,5 +1,7 @@
 pub mod Envelopes
 pub mod Requested
+pub mod Broadcasts
+pub mod Spending
 pub mod Losses
 pub mod Batches
 pub mod LineReplies

@@ -11,7 +11,7 @@ use Rattle.el_json.specs.declared.request.Envelope.TheVariants.{One, Batch}
 use Rattle.el_json.specs.declared.request.LineFault.{LineFault}
 use Rattle.el_json.specs.declared.request.LineFault.TheVariants as fault
 use Rattle.el_replies.specs.Envelopes.{reply_value}
-use Rattle.el_replies.specs.Batches.{Replies, Steps, CutSteps, is_closing}
+use Rattle.el_replies.specs.Batches.{Replies, Steps, CutAnswer, CutSteps, is_closing}
 use Rattle.el_replies.specs.declared.line.LineReply.{LineReply}
 use Rattle.el_calls.specs.declared.refusal.Refusal.{Refusal}
 use Rattle.el_calls.specs.declared.refusal.Refusal.TheVariants as refusal
@@ -59,11 +59,11 @@ module _ {X : Type 0} (answers : X → Request → Session → Result Data Refus
   IsReplyTo (Ok (Batch items)) x s y t reply =
       (replies : Replies) × Steps answers items x s no_replies y t replies × (reply ≡ batch_reply replies)
 
-  -- What comes of what a line says where memory runs out meanwhile: nothing was lost, but at elements of a
-  -- batch that were answered.
+  -- What comes of what a line says where memory runs out meanwhile: nothing was done, but in requests that
+  -- were answered, of which the last may be answered a result for which there was no room.
   abbrev pub IsCutAt : Result Envelope LineFault → X → Session → X → Type 0
   IsCutAt (Err e) x s y = y ≡ x
-  IsCutAt (Ok (One r)) x s y = y ≡ x
+  IsCutAt (Ok (One r)) x s y = CutAnswer answers r x s y
   IsCutAt (Ok (Batch items)) x s y = CutSteps answers items x s no_replies y
 
   -- What comes of the line: the reply, or memory ran out, while the line was read or then.

@@ -1,5 +1,5 @@
--- How many rows of the index a client's line reads at most: those of the calls that its requests ask for, each
--- once.
+-- How many rows of the index a client's line reads at most: those of the calls that its requests ask for,
+-- each once.
 use Rattle.std.specs.Prelude.{◌≡◌, ◌⊎◌, ◌≤◌, ℕ, ◌+◌, List, [], ◌∷◌, Result, Ok, Err}
 use Rattle.el_chain.specs.Chains.{Chain}
 use Rattle.el_json.specs.declared.request.Request.{Request}
@@ -18,18 +18,18 @@ abbrev pub RequestReads : Chain → ℕ → Request → ℕ → Type 0
 RequestReads chain buckets r n =
     (n ≡ 0) ⊎ ((c : Call) × IsCalled r.method r.params (Ok c) × (n ≡ rows_of chain buckets c))
 
--- so many for an element of a batch
+-- so many rows for an element of a batch
 abbrev pub ItemReads : Chain → ℕ → Item → ℕ → Type 0
 ItemReads chain buckets (Good r) n = RequestReads chain buckets r n
 ItemReads chain buckets (Invalid id) n = n ≡ 0
 
--- so many for the elements together
+-- so many rows for the elements together
 abbrev pub ItemsRead : Chain → ℕ → List Item → ℕ → Type 0
 ItemsRead chain buckets [] n = n ≡ 0
 ItemsRead chain buckets (i ∷ is) n =
     (one more : ℕ) × ItemReads chain buckets i one × ItemsRead chain buckets is more × (n ≡ one + more)
 
--- so many for what a line says
+-- so many rows for what a line says
 abbrev pub LineReads : Chain → ℕ → Result Envelope LineFault → ℕ → Type 0
 LineReads chain buckets (Ok (One r)) n = RequestReads chain buckets r n
 LineReads chain buckets (Ok (Batch items)) n = ItemsRead chain buckets items n

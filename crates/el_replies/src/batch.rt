@@ -8,8 +8,9 @@ ghost use Rattle.el_side.specs.Caching.{CachesStand, CachesStay};
 ghost use Rattle.el_side.specs.NodeSteps.{IsSettled};
 ghost use Rattle.el_side.specs.Side.{Side};
 ghost use Rattle.el_replies.specs.Envelopes.{reply_value};
-ghost use Rattle.el_replies.specs.Losses.{AnswersOf, Loses};
-ghost use Rattle.el_replies.specs.Batches.{added, noted, with_reply, InTime, Step, Steps, CutSteps};
+ghost use Rattle.el_replies.specs.Losses.{AnswersOf};
+ghost use Rattle.el_replies.specs.Spending.{Loses, asked_ghosts, asking};
+ghost use Rattle.el_replies.specs.Batches.{added, noted, with_reply, InTime, Step, Steps, CutAnswer, CutStep, CutSteps};
 ghost use Rattle.el_replies.specs.within.Errors.{error_text};
 ghost use Rattle.el_replies.specs.within.Gathered.{replies_of, HasEnd, HasSpace};
 ghost use Rattle.el_json.specs.Lines.{HasPrintableId, IsPrintable, IsPrintableId};
@@ -26,7 +27,8 @@ use el_base::{OutOfMemory, extend_reserved};
 use el_calls::Refusal;
 use el_json::{Answer, Elements, Item, Request};
 use el_model::Ledger;
-use el_outside::Archive;
+use el_outside::{Archive, Relay};
+use el_relay::Desk;
 use el_sessions::Session;
 use el_side::{Caches, Holdings};
 use std::alloc::Global;
@@ -177,13 +179,15 @@ fn refuse(
 
 // Answers a request before the limit was passed. The room for an error is taken before it is asked.
 #[tactic(auto, using(el_sessions::proofs::Subscribing::edits_same))]
-fn answer_in_time<G: Ledger, A: Archive>(
+fn answer_in_time<G: Ledger, A: Archive, Y: Relay>(
     alloc: Global,
     ledger: &mut G,
     archive: &mut A,
     holdings: &Holdings,
     caches: &mut Caches,
     session: &mut Session,
+    desk: &mut Desk,
+    relay: &mut Y,
     replies: &mut Gathered,
     request: Request,
 ) -> Result<(), OutOfMemory>
@@ -192,11 +196,12 @@ fn answer_in_time<G: Ledger, A: Archive>(
     requires end { HasEnd replies.old }
     ensures answered { (side : Side) → IsSettled (ghosts ⟦<G as Ledger>⟧ ⟦<A as Archive>⟧)
         (beneath ledger.old archive.old) holdings.now caches.old side → Loses
-        (G.faults ledger.old) (G.faults ledger.new) (A.faults archive.old) (A.faults archive.new)
+        (asked_ghosts (ghosts ⟦<G as Ledger>⟧ ⟦<A as Archive>⟧) ⟦<Y as Relay>⟧)
+        (asking ledger.old archive.old relay.old desk.old) (asking ledger.new archive.new relay.new desk.new)
         (λ before after. MatchResult result
         (λ _. InTime (AnswersOf A.tells side)
         request before session.old (replies_of replies.old) after session.new (replies_of replies.new))
-        (λ _. after ≡ before)) }
+        (λ _. CutAnswer (AnswersOf A.tells side) request before session.old after)) }
     ensures end { OnOk result (HasEnd replies.new) }
     ensures edits { Edits session.old.subs session.new.subs }
     ensures rows { (chain : Chain) → G.stands ledger.old chain → CachesStand caches.old chain chain
@@ -205,23 +210,28 @@ fn answer_in_time<G: Ledger, A: Archive>(
     ensures caches { CachesStay ⟦<G as Ledger>⟧ ledger.old caches.old caches.new }
     ensures disk_more { G.faults ledger.old ≤ G.faults ledger.new }
     ensures archive_more { A.faults archive.old ≤ A.faults archive.new }
+    ensures relay_more { Y.faults relay.old ≤ Y.faults relay.new }
     ensures quiet { Asked ⟦<G as Ledger>⟧ ledger.old ledger.new }
     ensures grows { A.tells → AllGrow (A.bytes archive.old) (A.bytes archive.new) }
 {
     let room = make_room(alloc, replies, &request.id)?;
-    let told = answer_request(alloc, ledger, archive, holdings, caches, session, &request)?;
+    let told = answer_request(
+        alloc, ledger, archive, holdings, caches, session, desk, relay, &request,
+    )?;
     add_reply(alloc, replies, room, request.id, told)
 }
 
 // Answers an element of a batch.
 #[tactic(auto, using(el_sessions::proofs::Subscribing::edits_same))]
-fn answer_item<G: Ledger, A: Archive>(
+fn answer_item<G: Ledger, A: Archive, Y: Relay>(
     alloc: Global,
     ledger: &mut G,
     archive: &mut A,
     holdings: &Holdings,
     caches: &mut Caches,
     session: &mut Session,
+    desk: &mut Desk,
+    relay: &mut Y,
     replies: &mut Gathered,
     item: Item,
 ) -> Result<(), OutOfMemory>
@@ -230,11 +240,12 @@ fn answer_item<G: Ledger, A: Archive>(
     requires end { HasEnd replies.old }
     ensures answered { (side : Side) → IsSettled (ghosts ⟦<G as Ledger>⟧ ⟦<A as Archive>⟧)
         (beneath ledger.old archive.old) holdings.now caches.old side → Loses
-        (G.faults ledger.old) (G.faults ledger.new) (A.faults archive.old) (A.faults archive.new)
+        (asked_ghosts (ghosts ⟦<G as Ledger>⟧ ⟦<A as Archive>⟧) ⟦<Y as Relay>⟧)
+        (asking ledger.old archive.old relay.old desk.old) (asking ledger.new archive.new relay.new desk.new)
         (λ before after. MatchResult result
         (λ _. Step (AnswersOf A.tells side)
         item before session.old (replies_of replies.old) after session.new (replies_of replies.new))
-        (λ _. after ≡ before)) }
+        (λ _. CutStep (AnswersOf A.tells side) item before session.old (replies_of replies.old) after)) }
     ensures end { OnOk result (HasEnd replies.new) }
     ensures edits { Edits session.old.subs session.new.subs }
     ensures rows { (chain : Chain) → G.stands ledger.old chain → CachesStand caches.old chain chain
@@ -243,6 +254,7 @@ fn answer_item<G: Ledger, A: Archive>(
     ensures caches { CachesStay ⟦<G as Ledger>⟧ ledger.old caches.old caches.new }
     ensures disk_more { G.faults ledger.old ≤ G.faults ledger.new }
     ensures archive_more { A.faults archive.old ≤ A.faults archive.new }
+    ensures relay_more { Y.faults relay.old ≤ Y.faults relay.new }
     ensures quiet { Asked ⟦<G as Ledger>⟧ ledger.old ledger.new }
     ensures grows { A.tells → AllGrow (A.bytes archive.old) (A.bytes archive.new) }
 {
@@ -252,7 +264,8 @@ fn answer_item<G: Ledger, A: Archive>(
                 refuse(alloc, replies, request.id, Refusal::BatchTooLarge)
             } else {
                 answer_in_time(
-                    alloc, ledger, archive, holdings, caches, session, replies, request,
+                    alloc, ledger, archive, holdings, caches, session, desk, relay, replies,
+                    request,
                 )
             }
         }
@@ -262,14 +275,16 @@ fn answer_item<G: Ledger, A: Archive>(
 
 /// Answers the elements of a batch in order: once the texts of the replies have more than `BATCH_LIMIT` bytes
 /// together, each later request is refused and has no effect. Fails only where memory runs out at an element,
-/// which then lost nothing; what those before it lost is counted too.
-pub(crate) fn answer_items<G: Ledger, A: Archive>(
+/// which then did nothing, or was answered a result; what those before it did is counted too.
+pub(crate) fn answer_items<G: Ledger, A: Archive, Y: Relay>(
     alloc: Global,
     ledger: &mut G,
     archive: &mut A,
     holdings: &Holdings,
     caches: &mut Caches,
     session: &mut Session,
+    desk: &mut Desk,
+    relay: &mut Y,
     replies: &mut Gathered,
     elements: &mut Elements,
 ) -> Result<(), OutOfMemory>
@@ -277,7 +292,8 @@ pub(crate) fn answer_items<G: Ledger, A: Archive>(
     requires end { HasEnd replies.old }
     ensures answered { (side : Side) → IsSettled (ghosts ⟦<G as Ledger>⟧ ⟦<A as Archive>⟧)
         (beneath ledger.old archive.old) holdings.now caches.old side → Loses
-        (G.faults ledger.old) (G.faults ledger.new) (A.faults archive.old) (A.faults archive.new)
+        (asked_ghosts (ghosts ⟦<G as Ledger>⟧ ⟦<A as Archive>⟧) ⟦<Y as Relay>⟧)
+        (asking ledger.old archive.old relay.old desk.old) (asking ledger.new archive.new relay.new desk.new)
         (λ before after. MatchResult result
         (λ _. Steps (AnswersOf A.tells side)
         elements.old before session.old (replies_of replies.old) after session.new (replies_of replies.new))
@@ -291,12 +307,13 @@ pub(crate) fn answer_items<G: Ledger, A: Archive>(
     ensures caches { CachesStay ⟦<G as Ledger>⟧ ledger.old caches.old caches.new }
     ensures disk_more { G.faults ledger.old ≤ G.faults ledger.new }
     ensures archive_more { A.faults archive.old ≤ A.faults archive.new }
+    ensures relay_more { Y.faults relay.old ≤ Y.faults relay.new }
     ensures quiet { Asked ⟦<G as Ledger>⟧ ledger.old ledger.new }
     ensures grows { A.tells → AllGrow (A.bytes archive.old) (A.bytes archive.new) }
 {
     while let Some(item) = elements.next(alloc) {
         answer_item(
-            alloc, ledger, archive, holdings, caches, session, replies, item,
+            alloc, ledger, archive, holdings, caches, session, desk, relay, replies, item,
         )?;
     }
     Ok(())

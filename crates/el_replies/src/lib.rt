@@ -2,6 +2,7 @@
 #![tactic(auto)]
 
 mod batch;
+mod broadcast;
 mod error_room;
 mod line;
 mod replies;

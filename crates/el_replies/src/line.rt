@@ -8,8 +8,9 @@ ghost use Rattle.el_side.specs.Beneath.{beneath, ghosts};
 ghost use Rattle.el_side.specs.Caching.{CachesStand, CachesStay};
 ghost use Rattle.el_side.specs.NodeSteps.{IsSettled};
 ghost use Rattle.el_side.specs.Side.{Side};
-ghost use Rattle.el_replies.specs.Losses.{AnswersOf, Loses};
-ghost use Rattle.el_replies.specs.Batches.{CutSteps, is_closing};
+ghost use Rattle.el_replies.specs.Losses.{AnswersOf};
+ghost use Rattle.el_replies.specs.Spending.{Loses, asked_ghosts, asking};
+ghost use Rattle.el_replies.specs.Batches.{CutAnswer, CutSteps, is_closing};
 ghost use Rattle.el_replies.specs.LineReplies.{message, message_to, reply_to, says, batch_message, no_replies, IsReplyTo, IsLineReply};
 ghost use Rattle.el_replies.specs.within.Errors.{error_text};
 ghost use Rattle.el_replies.specs.within.Gathered.{replies_of, HasEnd};
@@ -26,7 +27,8 @@ use el_base::{Bytes, OutOfMemory, extend_reserved};
 use el_calls::Refusal;
 use el_json::{Answer, Elements, Envelope, LineFault, Request, read_line};
 use el_model::Ledger;
-use el_outside::Archive;
+use el_outside::{Archive, Relay};
+use el_relay::Desk;
 use el_sessions::Session;
 use el_side::{Caches, Holdings};
 use std::alloc::Global;
@@ -126,24 +128,27 @@ fn reply_to_id(
 
 // The message to one request. The room for an error is taken before it is asked.
 #[tactic(auto, using(el_sessions::proofs::Subscribing::edits_same))]
-fn one_reply<G: Ledger, A: Archive>(
+fn one_reply<G: Ledger, A: Archive, Y: Relay>(
     alloc: Global,
     ledger: &mut G,
     archive: &mut A,
     holdings: &Holdings,
     caches: &mut Caches,
     session: &mut Session,
+    desk: &mut Desk,
+    relay: &mut Y,
     request: Request,
 ) -> Result<LineReply, OutOfMemory>
     requires live { G.is_live ledger.old }
     requires printable { IsPrintableId request.id }
     ensures answered { (side : Side) → IsSettled (ghosts ⟦<G as Ledger>⟧ ⟦<A as Archive>⟧)
         (beneath ledger.old archive.old) holdings.now caches.old side → Loses
-        (G.faults ledger.old) (G.faults ledger.new) (A.faults archive.old) (A.faults archive.new)
+        (asked_ghosts (ghosts ⟦<G as Ledger>⟧ ⟦<A as Archive>⟧) ⟦<Y as Relay>⟧)
+        (asking ledger.old archive.old relay.old desk.old) (asking ledger.new archive.new relay.new desk.new)
         (λ before after. MatchResult result
         (λ reply. IsReplyTo (AnswersOf A.tells side)
         (Ok (Envelope.One request)) before session.old after session.new reply)
-        (λ _. after ≡ before)) }
+        (λ _. CutAnswer (AnswersOf A.tells side) request before session.old after)) }
     ensures edits { Edits session.old.subs session.new.subs }
     ensures rows { (chain : Chain) → G.stands ledger.old chain → CachesStand caches.old chain chain
         → ReadsWithin (RequestReads chain (G.buckets ledger.old) request)
@@ -151,11 +156,14 @@ fn one_reply<G: Ledger, A: Archive>(
     ensures caches { CachesStay ⟦<G as Ledger>⟧ ledger.old caches.old caches.new }
     ensures disk_more { G.faults ledger.old ≤ G.faults ledger.new }
     ensures archive_more { A.faults archive.old ≤ A.faults archive.new }
+    ensures relay_more { Y.faults relay.old ≤ Y.faults relay.new }
     ensures quiet { Asked ⟦<G as Ledger>⟧ ledger.old ledger.new }
     ensures grows { A.tells → AllGrow (A.bytes archive.old) (A.bytes archive.new) }
 {
     let room = room_for(alloc, &request.id)?;
-    let told = answer_request(alloc, ledger, archive, holdings, caches, session, &request)?;
+    let told = answer_request(
+        alloc, ledger, archive, holdings, caches, session, desk, relay, &request,
+    )?;
     reply_to_id(alloc, room, request.id, told)
 }
 
@@ -173,19 +181,22 @@ fn no_replies(alloc: Global) -> Gathered
 }
 
 // The message to a batch.
-fn batch_reply<G: Ledger, A: Archive>(
+fn batch_reply<G: Ledger, A: Archive, Y: Relay>(
     alloc: Global,
     ledger: &mut G,
     archive: &mut A,
     holdings: &Holdings,
     caches: &mut Caches,
     session: &mut Session,
+    desk: &mut Desk,
+    relay: &mut Y,
     elements: Elements,
 ) -> Result<LineReply, OutOfMemory>
     requires live { G.is_live ledger.old }
     ensures answered { (side : Side) → IsSettled (ghosts ⟦<G as Ledger>⟧ ⟦<A as Archive>⟧)
         (beneath ledger.old archive.old) holdings.now caches.old side → Loses
-        (G.faults ledger.old) (G.faults ledger.new) (A.faults archive.old) (A.faults archive.new)
+        (asked_ghosts (ghosts ⟦<G as Ledger>⟧ ⟦<A as Archive>⟧) ⟦<Y as Relay>⟧)
+        (asking ledger.old archive.old relay.old desk.old) (asking ledger.new archive.new relay.new desk.new)
         (λ before after. MatchResult result
         (λ reply. IsReplyTo (AnswersOf A.tells side)
         (Ok (Envelope.Batch elements)) before session.old after session.new reply)
@@ -198,6 +209,7 @@ fn batch_reply<G: Ledger, A: Archive>(
     ensures caches { CachesStay ⟦<G as Ledger>⟧ ledger.old caches.old caches.new }
     ensures disk_more { G.faults ledger.old ≤ G.faults ledger.new }
     ensures archive_more { A.faults archive.old ≤ A.faults archive.new }
+    ensures relay_more { Y.faults relay.old ≤ Y.faults relay.new }
     ensures quiet { Asked ⟦<G as Ledger>⟧ ledger.old ledger.new }
     ensures grows { A.tells → AllGrow (A.bytes archive.old) (A.bytes archive.new) }
 {
@@ -210,6 +222,8 @@ fn batch_reply<G: Ledger, A: Archive>(
         holdings,
         caches,
         session,
+        desk,
+        relay,
         &mut replies,
         &mut elements,
     )?;
@@ -233,22 +247,25 @@ fn fault_reply(alloc: Global, id: Answer, refusal: Refusal) -> Result<LineReply,
 
 /// What comes of a line of a client, which stands without the byte 10 that ended it. What is lost meanwhile
 /// is told to the client in the replies. Where memory runs out, nothing was lost, but at elements of a batch
-/// that were answered before.
+/// that were answered before; and the request that found none may have been broadcast.
 #[tactic(auto, using(el_sessions::proofs::Subscribing::edits_same))]
-pub fn reply_line<G: Ledger, A: Archive>(
+pub fn reply_line<G: Ledger, A: Archive, Y: Relay>(
     alloc: Global,
     ledger: &mut G,
     archive: &mut A,
     holdings: &Holdings,
     caches: &mut Caches,
     session: &mut Session,
+    desk: &mut Desk,
+    relay: &mut Y,
     line: &[u8],
 ) -> Result<LineReply, OutOfMemory>
     requires live { G.is_live ledger.old }
     // `files` are the bytes of the block files at some moment before, as the server knows them.
     ensures answered { (side : Side) → IsSettled (ghosts ⟦<G as Ledger>⟧ ⟦<A as Archive>⟧)
         (beneath ledger.old archive.old) holdings.now caches.old side → Loses
-        (G.faults ledger.old) (G.faults ledger.new) (A.faults archive.old) (A.faults archive.new)
+        (asked_ghosts (ghosts ⟦<G as Ledger>⟧ ⟦<A as Archive>⟧) ⟦<Y as Relay>⟧)
+        (asking ledger.old archive.old relay.old desk.old) (asking ledger.new archive.new relay.new desk.new)
         (λ before after. IsLineReply
         (AnswersOf A.tells side)
         line.now before session.old after session.new result) }
@@ -261,15 +278,18 @@ pub fn reply_line<G: Ledger, A: Archive>(
     ensures caches { CachesStay ⟦<G as Ledger>⟧ ledger.old caches.old caches.new }
     ensures disk_more { G.faults ledger.old ≤ G.faults ledger.new }
     ensures archive_more { A.faults archive.old ≤ A.faults archive.new }
+    ensures relay_more { Y.faults relay.old ≤ Y.faults relay.new }
     ensures quiet { Asked ⟦<G as Ledger>⟧ ledger.old ledger.new }
     ensures grows { A.tells → AllGrow (A.bytes archive.old) (A.bytes archive.new) }
 {
     match read_line(alloc, line) {
         Ok(Envelope::One(request)) => one_reply(
-            alloc, ledger, archive, holdings, caches, session, request,
+            alloc, ledger, archive, holdings, caches, session, desk, relay, request,
         ),
         Ok(Envelope::Batch(elements)) => {
-            batch_reply(alloc, ledger, archive, holdings, caches, session, elements)
+            batch_reply(
+                alloc, ledger, archive, holdings, caches, session, desk, relay, elements,
+            )
         }
         Err(LineFault::Parse) => fault_reply(alloc, Answer::null(), Refusal::Parse),
         Err(LineFault::Invalid(id)) => fault_reply(alloc, id, Refusal::Invalid),

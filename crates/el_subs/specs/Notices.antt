@@ -21,7 +21,7 @@ notification method params =
     object_of ((codes "jsonrpc", string (codes "2.0")) ∷ (codes "method", string method)
     ∷ (codes "params", params) ∷ [])
 
--- as it is sent
+-- a notification as it is sent: its compact text, and the newline (10)
 unfoldable pub line_of : Data → List ℕ
 line_of value = compact_text value ++ 10 ∷ []
 
@@ -31,7 +31,7 @@ tip_lines (Ok tip) =
     line_of (notification (codes "blockchain.headers.subscribe") (array (item tip no_items))) ∷ []
 tip_lines (Err r) = []
 
--- the same, where the client subscribes to headers and the tip isn't the one before
+-- the line that tells a client of the tip, where it subscribes to headers and the tip isn't the one before
 abbrev pub header_lines : Option Hash32 → Chain → Bool → List (List ℕ)
 header_lines before chain headers =
     if headers && not (option_eq same_hash before (tip_of chain)) then tip_lines (headers_subscribe chain)

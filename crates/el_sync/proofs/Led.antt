@@ -30,6 +30,7 @@ use Rattle.el_side.specs.Side.{Side, IsSure, GoesAlong, Looks, Moving, Orders, O
 use Rattle.el_model.proofs.LedgerMoves.{LeavesOwn, asked_then, moved_then}
 use Rattle.el_tx.specs.declared.types.Tx.{Tx}
 use Rattle.el_mempool.specs.Standing.{AreChanged, PoolState, StandsFor}
+use Rattle.el_fees.specs.Tables.{IsTableOf}
 use Rattle.el_side.specs.declared.caches.Caches.{Caches}
 use Rattle.el_side.specs.declared.holdings.Holdings.{Holdings}
 use Rattle.el_status.proofs.Sides.{looks_self}
@@ -140,7 +141,7 @@ module _ {G A : Type 0} (of : Ghosts G A) where
     ahead_is = none ∙ sym still;
     magic_is = refl;
     next_start = start;
-    set = record { stood = λ sure. absurd (not_both side sure un); computed = λ sure. absurd (not_both side sure un); still = at.set.still; limits = limits ∙ at.set.limits };
+    set = record { stood = λ sure. absurd (not_both side sure un); fees = λ sure. absurd (not_both side sure un); computed = λ sure. absurd (not_both side sure un); still = at.set.still; limits = limits ∙ at.set.limits };
     touches = λ sure. absurd (not_both side sure un);
     went = λ sure. absurd (not_both side sure un);
     told = rw files_same at.told;
@@ -149,11 +150,11 @@ module _ {G A : Type 0} (of : Ghosts G A) where
 
   -- one of a sure side, after which other transactions are kept
   pub kept_leads : (side : Side) (start : Chain) (holdings : Holdings) (leads : NodeAnswer → List Deed → Side → Type 0) (answer : NodeAnswer) (changed : List Hash32) (left : StepLeft G A)
-      → IsSure side → IsAt of left.was holdings left.caches side start → side.ahead ≡ [] → StandsAfter left.holdings.pool side changed (leads answer []) → left.answer ≡ answer → left.found ≡ side.found → left.ahead ≡ []
+      → IsSure side → IsAt of left.was holdings left.caches side start → side.ahead ≡ [] → StandsAfter left.holdings.pool side changed (leads answer []) → IsTableOf left.holdings.fees left.holdings.pool.entries → left.answer ≡ answer → left.found ≡ side.found → left.ahead ≡ []
       → left.changed ≡ changed → left.holdings.pool.limits ≡ holdings.pool.limits → left.now.files ≡ left.was.files
       → Moved of.ledger left.was.ledger left.now.ledger side.chain side.chain → of.ledger.faults left.now.ledger ≡ of.ledger.faults left.was.ledger
       → Leads of leads side start left
-  kept_leads side start holdings leads answer changed left sure at still after says same none tells limits files_same went disk_same = record {
+  kept_leads side start holdings leads answer changed left sure at still after of_fees says same none tells limits files_same went disk_same = record {
     losses = [];
     next = record side { kept = after.kept };
     led = rw says after.done;
@@ -162,7 +163,7 @@ module _ {G A : Type 0} (of : Ghosts G A) where
     ahead_is = none ∙ sym still;
     magic_is = refl;
     next_start = side.chain;
-    set = record { stood = λ s. after.stood; computed = λ s. rw (at.set.still still) at (at.set.computed s); still = λ e. refl; limits = limits ∙ at.set.limits };
+    set = record { stood = λ s. after.stood; fees = λ s. of_fees; computed = λ s. rw (at.set.still still) at (at.set.computed s); still = λ e. refl; limits = limits ∙ at.set.limits };
     touches = λ s. touches_kept side start after.kept left.moved left.changed (at.set.still still) (rw tells after.changes);
     went = λ s. went;
     told = rw files_same at.told;
@@ -353,7 +354,7 @@ module _ {G A : Type 0} (of : Ghosts G A) where
     found_is = refl;
     ahead_is = none ∙ sym still;
     next_start = start;
-    set = rw same (record { stood = here.set.stood; computed = here.set.computed; still = here.set.still; limits = here.set.limits });
+    set = rw same (record { stood = here.set.stood; fees = here.set.fees; computed = here.set.computed; still = here.set.still; limits = here.set.limits });
     touches = λ sure. touches_none side (record side { found = left.found; files = of.files.bytes left.now.files }) start left.moved left.changed refl refl;
     went = went;
     told = λ t. all_grow_none (of.files.bytes left.now.files);

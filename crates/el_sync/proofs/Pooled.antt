@@ -100,7 +100,7 @@ drops_side pool pool_new side id answer scripts stood there after says =
     record { kept = sift side.chain (other_than id side.kept); done = side_of.goes kept says refl refl; stood = after.0; changes = after.1 }
 
 pub absent_side : (pool pool_new : PoolState) (side : Side) (id : Hash32) (answer : NodeAnswer) (scripts : List Hash32) → scripts ≡ [] → StandsFor pool.entries side.chain side.kept → false ≡ has_entry id pool.entries
-    → pool_new ≡ pool → answer ≡ say.Refused (refusal.Absent id) → StandsAfter pool_new side scripts (Drops side id answer [])
+    → pool_new.entries ≡ pool.entries → answer ≡ say.Refused (refusal.Absent id) → StandsAfter pool_new side scripts (Drops side id answer [])
 absent_side pool pool_new side id answer scripts apart stood there same says =
     let none : is_kept id side.kept ≡ false = sym (has_kept pool side id stood) ∙ sym there in
     record { kept = side.kept; done = side_of.absent none says refl refl; stood = rw same stood; changes = rw apart (unchanged side.chain side.kept) }

@@ -21,6 +21,7 @@ use Rattle.el_chain.specs.Moves.{InFlight, IsRefused, Moves, StoodAt, StoodBy, t
 use Rattle.el_mempool.specs.Sift.{sift}
 use Rattle.el_chain.specs.Touches.{AreTouched}
 use Rattle.el_mempool.specs.Standing.{AreChanged, PoolState, StandsFor}
+use Rattle.el_fees.specs.Tables.{IsTableOf}
 use Rattle.el_model.specs.Keeping.{Either}
 use Rattle.el_model.specs.LedgerCalls.{Asked, CrashLeaves, Moved}
 use Rattle.el_model.specs.Queries.{tip_of, height_of}
@@ -86,14 +87,14 @@ abbrev start_after : List Node → Chain → Chain → Chain
 start_after [] chain start = chain
 start_after (n ∷ ns) chain start = start
 
-set_moved : (l : List Node) (chain start : Chain) (files : ℕ → List ℕ) (holdings : Holdings) (pool_new : PoolState) (caches caches_new : Caches) (side : Side) → SetStands holdings caches side start
-    → pool_new.limits ≡ holdings.pool.limits → (l ≡ [] → StandsFor pool_new.entries chain (sift chain side.kept) × CachesStand caches_new chain chain)
+set_moved : (l : List Node) (chain start : Chain) (files : ℕ → List ℕ) (holdings : Holdings) (pool_new : PoolState) (fees_new : List ℕ) (caches caches_new : Caches) (side : Side) → SetStands holdings caches side start
+    → pool_new.limits ≡ holdings.pool.limits → (IsSure side → IsTableOf fees_new pool_new.entries) → (l ≡ [] → StandsFor pool_new.entries chain (sift chain side.kept) × CachesStand caches_new chain chain)
     → ((n : Node) (ns : List Node) → l ≡ n ∷ ns → (pool_new ≡ holdings.pool) × CachesStand caches_new start chain)
-    → SetStands (record holdings { pool = pool_new }) caches_new (record side { chain = chain; kept = kept_after l chain side.kept; ahead = l; files = files }) (start_after l chain start)
-set_moved [] chain start files holdings pool_new caches caches_new side set limits sifts same =
-    record { stood = λ sure. (sifts refl).0; computed = λ sure. (sifts refl).1; still = λ e. refl; limits = limits ∙ set.limits }
-set_moved (n ∷ ns) chain start files holdings pool_new caches caches_new side set limits sifts same =
-    record { stood = rw (same n ns refl).0 set.stood; computed = λ sure. (same n ns refl).1; still = λ e. absurd (let bad = e in cc); limits = limits ∙ set.limits }
+    → SetStands (record holdings { pool = pool_new; fees = fees_new }) caches_new (record side { chain = chain; kept = kept_after l chain side.kept; ahead = l; files = files }) (start_after l chain start)
+set_moved [] chain start files holdings pool_new fees_new caches caches_new side set limits of_fees sifts same =
+    record { stood = λ sure. (sifts refl).0; fees = of_fees; computed = λ sure. (sifts refl).1; still = λ e. refl; limits = limits ∙ set.limits }
+set_moved (n ∷ ns) chain start files holdings pool_new fees_new caches caches_new side set limits of_fees sifts same =
+    record { stood = rw (same n ns refl).0 set.stood; fees = of_fees; computed = λ sure. (same n ns refl).1; still = λ e. absurd (let bad = e in cc); limits = limits ∙ set.limits }
 
 touches_moved : (l : List Node) (chain start : Chain) (files : ℕ → List ℕ) (side : Side) (moved changed : List Hash32) → KeepsOthers side.chain chain moved
     → (l ≡ [] → AreChanged start side.kept chain (sift chain side.kept) changed)
@@ -108,14 +109,14 @@ touches_moved (n ∷ ns) chain start files side moved changed keeps change = rec
   looks = λ s out apart looks. looks_joined start side.chain chain s.0 looks (keeps s out);
 }
 
-set_refused : (later : Bool) (start : Chain) (files : ℕ → List ℕ) (holdings : Holdings) (pool_new : PoolState) (caches caches_new : Caches) (side : Side) → IsSure side → SetStands holdings caches side start → (later ≡ false → side.ahead ≡ []) → pool_new.limits ≡ holdings.pool.limits
+set_refused : (later : Bool) (start : Chain) (files : ℕ → List ℕ) (holdings : Holdings) (pool_new : PoolState) (fees_new : List ℕ) (caches caches_new : Caches) (side : Side) → IsSure side → SetStands holdings caches side start → (later ≡ false → side.ahead ≡ []) → pool_new.limits ≡ holdings.pool.limits → (IsSure side → IsTableOf fees_new pool_new.entries)
     → (later ≡ true → StandsFor pool_new.entries side.chain (sift side.chain side.kept)) → (later ≡ false → pool_new ≡ holdings.pool)
-    → CachesStand caches_new side.chain side.chain → SetStands (record holdings { pool = pool_new }) caches_new (record side { kept = sift side.chain side.kept; ahead = []; files = files }) side.chain
-set_refused true start files holdings pool_new caches caches_new side sure set still limits sifts same stand =
-    record { stood = λ s. sifts refl; computed = λ s. stand; still = λ e. refl; limits = limits ∙ set.limits }
-set_refused false start files holdings pool_new caches caches_new side sure set still limits sifts same stand =
+    → CachesStand caches_new side.chain side.chain → SetStands (record holdings { pool = pool_new; fees = fees_new }) caches_new (record side { kept = sift side.chain side.kept; ahead = []; files = files }) side.chain
+set_refused true start files holdings pool_new fees_new caches caches_new side sure set still limits of_fees sifts same stand =
+    record { stood = λ s. sifts refl; fees = of_fees; computed = λ s. stand; still = λ e. refl; limits = limits ∙ set.limits }
+set_refused false start files holdings pool_new fees_new caches caches_new side sure set still limits of_fees sifts same stand =
     let there = stands_there holdings caches side start sure set (still refl) in
-    record { stood = λ s. rw (same refl, there.sifted) there; computed = λ s. stand; still = λ e. refl; limits = limits ∙ set.limits }
+    record { stood = λ s. rw (same refl, there.sifted) there; fees = of_fees; computed = λ s. stand; still = λ e. refl; limits = limits ∙ set.limits }
 
 touches_refused : (later : Bool) (start : Chain) (files : ℕ → List ℕ) (holdings : Holdings) (caches : Caches) (side : Side) (moved changed : List Hash32) → IsSure side → SetStands holdings caches side start → (later ≡ false → side.ahead ≡ [])
     → (later ≡ true → AreChanged start side.kept side.chain (sift side.chain side.kept) changed)
@@ -298,10 +299,10 @@ module _ {G A : Type 0} (of : Ghosts G A) where
   tells_refusal was now rest (stop.Refused h f) m count still disk_same says none = tells_word was now rest (stop.Refused h f) m (still (λ e. let bad = e in cc)) disk_same says none
 
   -- a move of a side that is unsure
-  pub unsure_settled : (was now : Beneath G A) (mid : G) (side : Side) (start : Chain) (back : ℕ) (rest : List Node) (holdings : Holdings) (pool_new : PoolState) (caches caches_new : Caches) (m : Made) (changed : List Hash32) → side.sure ≡ false
+  pub unsure_settled : (was now : Beneath G A) (mid : G) (side : Side) (start : Chain) (back : ℕ) (rest : List Node) (holdings : Holdings) (pool_new : PoolState) (fees_new : List ℕ) (caches caches_new : Caches) (m : Made) (changed : List Hash32) → side.sure ≡ false
       → IsAt of was holdings caches side start → MoveKeeps of was (record now { ledger = mid }) rest m → pool_new.limits ≡ holdings.pool.limits → of.ledger.faults now.ledger ≡ of.ledger.faults mid
-      → Leads of (Moving of.files side back rest) side start (left_by was now (record { answer = m.answer; left = m.left; moved = m.touched; changed = changed }) side.found (record holdings { pool = pool_new }) caches_new)
-  unsure_settled was now mid side start back rest holdings pool_new caches caches_new m changed un at k limits disk_same = by k.tells.says
+      → Leads of (Moving of.files side back rest) side start (left_by was now (record { answer = m.answer; left = m.left; moved = m.touched; changed = changed }) side.found (record holdings { pool = pool_new; fees = fees_new }) caches_new)
+  unsure_settled was now mid side start back rest holdings pool_new fees_new caches caches_new m changed un at k limits disk_same = by k.tells.says
     where
       rose_on : Lost of was now k.tells.losses
       rose_on of_link of_relay = rw disk_same (k.tells.rose of_link of_relay)
@@ -310,7 +311,7 @@ module _ {G A : Type 0} (of : Ghosts G A) where
       grown t = all_grow_more side.files (of.files.bytes was.files) (of.files.bytes now.files) (at.told t) (k.keeps t)
 
       by : SaysMove rest m k.tells.losses
-          → Leads of (Moving of.files side back rest) side start (left_by was now (record { answer = m.answer; left = m.left; moved = m.touched; changed = changed }) side.found (record holdings { pool = pool_new }) caches_new)
+          → Leads of (Moving of.files side back rest) side start (left_by was now (record { answer = m.answer; left = m.left; moved = m.touched; changed = changed }) side.found (record holdings { pool = pool_new; fees = fees_new }) caches_new)
       by (of_ledger may lost) = record {
         losses = k.tells.losses;
         next = record side { ahead = m.left; files = of.files.bytes now.files };
@@ -320,7 +321,7 @@ module _ {G A : Type 0} (of : Ghosts G A) where
         ahead_is = refl;
         magic_is = refl;
         next_start = side.chain;
-        set = record { stood = λ sure. absurd (not_both side sure un); computed = λ sure. absurd (not_both side sure un); still = λ e. refl; limits = limits ∙ at.set.limits };
+        set = record { stood = λ sure. absurd (not_both side sure un); fees = λ sure. absurd (not_both side sure un); computed = λ sure. absurd (not_both side sure un); still = λ e. refl; limits = limits ∙ at.set.limits };
         touches = λ sure. absurd (not_both side sure un);
         went = λ sure. absurd (not_both side sure un);
         told = λ t. all_grow_none (of.files.bytes now.files);
@@ -335,7 +336,7 @@ module _ {G A : Type 0} (of : Ghosts G A) where
         ahead_is = none;
         magic_is = refl;
         next_start = side.chain;
-        set = record { stood = λ sure. absurd (not_both side sure un); computed = λ sure. absurd (not_both side sure un); still = λ e. refl; limits = limits ∙ at.set.limits };
+        set = record { stood = λ sure. absurd (not_both side sure un); fees = λ sure. absurd (not_both side sure un); computed = λ sure. absurd (not_both side sure un); still = λ e. refl; limits = limits ∙ at.set.limits };
         touches = λ sure. absurd (not_both side sure un);
         went = λ sure. absurd (not_both side sure un);
         told = λ t. all_grow_none (of.files.bytes now.files);
@@ -343,17 +344,18 @@ module _ {G A : Type 0} (of : Ghosts G A) where
       }
 
   -- the set was sifted, or a later move is to do it
-  pub settled : (was now : Beneath G A) (mid : G) (side : Side) (start : Chain) (back : ℕ) (rest : List Node) (holdings : Holdings) (pool_new : PoolState) (caches caches_mid caches_new : Caches) (m : Made) (changed : List Hash32) (later ends : Bool) → LeavesOwn of.ledger → of.ledger.is_live mid
+  pub settled : (was now : Beneath G A) (mid : G) (side : Side) (start : Chain) (back : ℕ) (rest : List Node) (holdings : Holdings) (pool_new : PoolState) (fees_new : List ℕ) (caches caches_mid caches_new : Caches) (m : Made) (changed : List Hash32) (later ends : Bool) → LeavesOwn of.ledger → of.ledger.is_live mid
       → IsSure side → IsAt of was holdings caches side start → (later ≡ false → side.ahead ≡ []) → Tries of was (record now { ledger = mid }) side back rest m → MoveKeeps of was (record now { ledger = mid }) rest m
       → ends ≡ ((length m.left == 0) && (m.moved || later))
       → ((first chain : Chain) → StandsFor holdings.pool.entries first side.kept → of.ledger.stands mid chain → ends ≡ true → StandsFor pool_new.entries chain (sift chain side.kept)
       × AreChanged first side.kept chain (sift chain side.kept) changed)
+      → ((first chain : Chain) → StandsFor holdings.pool.entries first side.kept → of.ledger.stands mid chain → IsTableOf holdings.fees holdings.pool.entries → IsTableOf fees_new pool_new.entries)
       → (ends ≡ false → pool_new ≡ holdings.pool) → pool_new.limits ≡ holdings.pool.limits → Asked of.ledger mid now.ledger → of.ledger.faults now.ledger ≡ of.ledger.faults mid
       → CachesStand caches_mid start (shorter (if m.moved then back else 0) side.chain)
       → ((first chain : Chain) → CachesStand caches_mid first chain → of.ledger.stands mid chain → ends ≡ true → CachesStand caches_new chain chain)
       → (ends ≡ false → caches_new ≡ caches_mid)
-      → Leads of (Moving of.files side back rest) side start (left_by was now (record { answer = m.answer; left = m.left; moved = m.touched; changed = changed }) side.found (record holdings { pool = pool_new }) caches_new)
-  settled was now mid side start back rest holdings pool_new caches caches_mid caches_new m changed later ends own live sure at still t k is sifts same limits asked disk_same taken follows stays = by t.tried t.moved t.rose
+      → Leads of (Moving of.files side back rest) side start (left_by was now (record { answer = m.answer; left = m.left; moved = m.touched; changed = changed }) side.found (record holdings { pool = pool_new; fees = fees_new }) caches_new)
+  settled was now mid side start back rest holdings pool_new fees_new caches caches_mid caches_new m changed later ends own live sure at still t k is sifts follows_fees same limits asked disk_same taken follows stays = by t.tried t.moved t.rose
     where
       rose_on : (losses : List Deed) → Lost of was (record now { ledger = mid }) losses
           → Lost of was now losses
@@ -369,7 +371,7 @@ module _ {G A : Type 0} (of : Ghosts G A) where
 
       by : {losses : List Deed} {chain : Chain} → Tried (StoodAt of.files side.files (of.files.bytes now.files)) side back rest m.moved m.answer m.touched losses chain → Moved of.ledger was.ledger mid side.chain chain
           → Lost of was (record now { ledger = mid }) losses
-          → Leads of (Moving of.files side back rest) side start (left_by was now (record { answer = m.answer; left = m.left; moved = m.touched; changed = changed }) side.found (record holdings { pool = pool_new }) caches_new)
+          → Leads of (Moving of.files side back rest) side start (left_by was now (record { answer = m.answer; left = m.left; moved = m.touched; changed = changed }) side.found (record holdings { pool = pool_new; fees = fees_new }) caches_new)
       by {losses} {chain} (made blocks moves touched yes_moved chain_is answer_is lost) moved rose =
           let left_is : m.left ≡ left_of rest = k.left ∙ rw yes_moved refl in
           let stood : of.ledger.stands mid (shorter back side.chain ++ blocks) = rw chain_is at moved.stood in
@@ -389,7 +391,7 @@ module _ {G A : Type 0} (of : Ghosts G A) where
             ahead_is = left_is;
             magic_is = refl;
             next_start = start_after (left_of rest) (shorter back side.chain ++ blocks) start;
-            set = set_moved (left_of rest) (shorter back side.chain ++ blocks) start (of.files.bytes now.files) holdings pool_new caches caches_new side at.set limits
+            set = set_moved (left_of rest) (shorter back side.chain ++ blocks) start (of.files.bytes now.files) holdings pool_new fees_new caches caches_new side at.set limits (λ s. follows_fees start (shorter back side.chain ++ blocks) (at.set.stood sure) stood (at.set.fees sure))
                 (λ none. ((sifts start (shorter back side.chain ++ blocks) (at.set.stood sure) stood (ended none)).0, follows start (shorter back side.chain ++ blocks) there stood (ended none)))
                 (λ n ns some. let goes_on = ends_not n ns m.left m.moved later ends is (left_is ∙ some) in (same goes_on, rw (stays goes_on) there));
             touches = λ s. touches_moved (left_of rest) (shorter back side.chain ++ blocks) start (of.files.bytes now.files) side m.touched changed
@@ -411,7 +413,7 @@ module _ {G A : Type 0} (of : Ghosts G A) where
             ahead_is = left_is;
             magic_is = refl;
             next_start = side.chain;
-            set = set_refused later start (of.files.bytes now.files) holdings pool_new caches caches_new side sure at.set still limits
+            set = set_refused later start (of.files.bytes now.files) holdings pool_new fees_new caches caches_new side sure at.set still limits (λ s. follows_fees start side.chain (at.set.stood sure) moved_on.stood (at.set.fees sure))
                 (λ yes_later. (sifts start side.chain (at.set.stood sure) moved_on.stood (ended ∙ yes_later)).0) (λ no_later. same (ended ∙ no_later))
                 (stand_on later refl ended no_moved moved_on.stood);
             touches = λ s. touches_refused later start (of.files.bytes now.files) holdings caches side m.touched changed sure at.set still
@@ -433,7 +435,7 @@ module _ {G A : Type 0} (of : Ghosts G A) where
             ahead_is = left_is;
             magic_is = refl;
             next_start = side.chain;
-            set = set_refused later start (of.files.bytes now.files) holdings pool_new caches caches_new side sure at.set still limits
+            set = set_refused later start (of.files.bytes now.files) holdings pool_new fees_new caches caches_new side sure at.set still limits (λ s. follows_fees start side.chain (at.set.stood sure) moved_on.stood (at.set.fees sure))
                 (λ yes_later. (sifts start side.chain (at.set.stood sure) moved_on.stood (ended ∙ yes_later)).0) (λ no_later. same (ended ∙ no_later))
                 (stand_on later refl ended no_moved moved_on.stood);
             touches = λ s. touches_refused later start (of.files.bytes now.files) holdings caches side m.touched changed sure at.set still

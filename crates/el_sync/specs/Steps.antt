@@ -42,8 +42,8 @@ pub record IsFrom (holdings : Holdings) (side : Side) : Type 0 where
 pub data FailsBy (later : Bool) (chain next : Chain) (e : QueryFault) (losses : List Deed) : Type 0 where
   by_disk : e ≡ fault.DiskFailed → losses ≡ deed.lost disk ∷ [] → FailsBy later chain next e losses
   by_memory : e ≡ fault.Memory → losses ≡ [] → FailsBy later chain next e losses
-  -- in the sift or as the caches follow, after the block files had failed in the move: no memory was found, or
-  -- the disk failed
+  -- in the sift or as the caches follow, after the block files had failed in the move: no memory was found,
+  -- or the disk failed
   untold : later ≡ true → e ≡ fault.Memory → losses ≡ deed.lost archive ∷ [] → next ≡ chain
       → FailsBy later chain next e losses
   in_sift : later ≡ true → e ≡ fault.DiskFailed → losses ≡ deed.lost archive ∷ deed.lost disk ∷ []

@@ -1,10 +1,12 @@
 // The node's lines about unconfirmed transactions.
-ghost use Rattle.std.specs.Prelude.{◌≡◌, ◌⊎◌, ◌≢◌, [], IfOk, IfErr, OnOk, Some, IsErrOf};
+ghost use Rattle.std.specs.Prelude.{◌≡◌, ◌⊎◌, ◌≢◌, [], List, IfOk, IfErr, OnOk, Some, IsErrOf};
 ghost use Rattle.el_outside.specs.Counts.{CountsOnly};
 ghost use Rattle.el_tx.specs.declared.types.Tx as tx_shape;
 ghost use Rattle.el_tx.specs.Encoding.{Encodes};
 ghost use Rattle.el_tx.specs.Hashing as hashing;
+ghost use Rattle.el_chain.specs.Chains.{Chain};
 ghost use Rattle.el_mempool.specs.Standing.{StandsFor};
+ghost use Rattle.el_fees.specs.Tables.{IsTableOf};
 ghost use Rattle.el_model.specs.LedgerCalls.{Asked};
 ghost use Rattle.el_model.specs.declared.fault.QueryFault.TheVariants as turn_fault;
 ghost use Rattle.el_lines.specs.NodeAnswers as answers;
@@ -14,6 +16,7 @@ ghost use Rattle.el_sync.specs.within.Parts.{NamesItself, StandsAfter};
 use crate::fault::StepFault;
 use el_base::Hash32;
 use el_chain::Touched;
+use el_fees::FeeTable;
 use el_lines::{NodeAnswer, NodeRefusal, pool_refused};
 use el_mempool::PoolFault;
 use el_model::Ledger;
@@ -83,7 +86,7 @@ fn refuse_tx(alloc: Global, bytes: &[u8], fault: PoolFault) -> Result<PoolAnswer
 }
 
 /// Takes a line that tells an unconfirmed transaction by its bytes: it joins those that are kept, or is
-/// refused.
+/// refused. The table of fees follows.
 ///
 /// # Errors
 ///
@@ -93,12 +96,16 @@ pub fn order_tx<G: Ledger>(
     alloc: Global,
     ledger: &mut G,
     pool: &mut Pool,
+    fees: &mut FeeTable,
     bytes: &[u8],
 ) -> Result<PoolAnswer, StepFault>
     requires live { G.is_live ledger.old }
     ensures adds { (side : Side) → G.stands ledger.old side.chain
         → StandsFor pool.old.entries side.chain side.kept → pool.old.limits ≡ side.limits
         → IfOk result (λ r. StandsAfter pool.new side r.changed (Adds side bytes.now r.answer [])) }
+    ensures fees { (chain : Chain) (kept : List tx_shape.Tx) → G.stands ledger.old chain
+        → StandsFor pool.old.entries chain kept → IsTableOf fees.old pool.old.entries
+        → OnOk result (IsTableOf fees.new pool.new.entries) }
     // Whatever the ledger and the set stand for.
     ensures tells { IfOk result (λ r. MayTellTx r.answer) }
     ensures untouched { IfOk result (λ r. r.answer ≡ NodeAnswer.Refused NodeRefusal.Archive
@@ -108,19 +115,29 @@ pub fn order_tx<G: Ledger>(
     ensures disk_rose { CountsOnly (G.faults ledger.old) (G.faults ledger.new) turn_fault.DiskFailed result }
 {
     match pool.add(ledger, bytes) {
-        Ok((id, changed)) => Ok(PoolAnswer {
-            answer: NodeAnswer::Tx(id),
-            changed,
-        }),
+        Ok((id, changed)) => {
+            fees.follow(pool.last_changes());
+            Ok(PoolAnswer {
+                answer: NodeAnswer::Tx(id),
+                changed,
+            })
+        }
         Err(fault) => refuse_tx(alloc, bytes, fault),
     }
 }
 
 /// Takes a line that tells that the node no longer has the transaction of this txid: it is dropped from those
-/// that are kept, with those that spend it. Fails only where memory runs out.
-pub fn order_drop(alloc: Global, pool: &mut Pool, id: Hash32) -> Result<PoolAnswer, StepFault>
+/// that are kept, with those that spend it. The table of fees follows. Fails only where memory runs out.
+pub fn order_drop(
+    alloc: Global,
+    pool: &mut Pool,
+    fees: &mut FeeTable,
+    id: Hash32,
+) -> Result<PoolAnswer, StepFault>
     ensures drops { (side : Side) → StandsFor pool.old.entries side.chain side.kept
         → IfOk result (λ r. StandsAfter pool.new side r.changed (Drops side id r.answer [])) }
+    ensures fees { (chain : Chain) (kept : List tx_shape.Tx) → StandsFor pool.old.entries chain kept
+        → IsTableOf fees.old pool.old.entries → OnOk result (IsTableOf fees.new pool.new.entries) }
     // Whatever the set stands for.
     ensures tells { IfOk result (λ r. (r.answer ≡ NodeAnswer.Gone id)
         ⊎ (r.answer ≡ NodeAnswer.Refused (NodeRefusal.Absent id))) }
@@ -135,6 +152,7 @@ pub fn order_drop(alloc: Global, pool: &mut Pool, id: Hash32) -> Result<PoolAnsw
             changed: Touched::new(alloc),
         });
     };
+    fees.follow(pool.last_changes());
     Ok(PoolAnswer {
         answer: NodeAnswer::Gone(id),
         changed,

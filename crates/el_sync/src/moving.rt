@@ -11,6 +11,7 @@ ghost use Rattle.el_chain.specs.Moves.{shorter, max_back};
 ghost use Rattle.el_chain.specs.Records.{IsNode};
 ghost use Rattle.el_mempool.specs.Sift.{sift};
 ghost use Rattle.el_mempool.specs.Standing.{AreChanged, StandsFor};
+ghost use Rattle.el_fees.specs.Tables.{IsTableOf};
 ghost use Rattle.el_model.specs.LedgerCalls.{Asked};
 ghost use Rattle.el_model.specs.declared.fault.QueryFault.TheVariants as turn_fault;
 ghost use Rattle.el_side.specs.Beneath.{beneath, ghosts};
@@ -24,6 +25,7 @@ use crate::ahead::Ahead;
 use crate::fault::StepFault;
 use crate::making::{Made, make_move};
 use el_chain::Touched;
+use el_fees::FeeTable;
 use el_lines::NodeAnswer;
 use el_model::Ledger;
 use el_outside::{Archive, Pace};
@@ -60,12 +62,13 @@ fn taken(moved: bool, back: u32) -> u32
     if moved { back } else { 0 }
 }
 
-// Where a line ends, sifts the set over the ledger's chain, and brings the caches to it. Gives the script
-// hashes that changed.
+// Where a line ends, sifts the set over the ledger's chain, and brings the table of fees to the set and the
+// caches to the chain. Gives the script hashes that changed.
 fn settle<G: Ledger>(
     alloc: Global,
     ledger: &mut G,
     pool: &mut Pool,
+    fees: &mut FeeTable,
     caches: &mut Caches,
     ends: bool,
 ) -> Result<Touched, StepFault>
@@ -74,6 +77,9 @@ fn settle<G: Ledger>(
         → StandsFor pool.old.entries before kept → G.stands ledger.old chain
         → IfOk result (λ changed. ends ≡ true → StandsFor pool.new.entries chain (sift chain kept)
         × AreChanged before kept chain (sift chain kept) changed) }
+    ensures fees { (before chain : Chain) (kept : List tx_shape.Tx)
+        → StandsFor pool.old.entries before kept → G.stands ledger.old chain
+        → IsTableOf fees.old pool.old.entries → OnOk result (IsTableOf fees.new pool.new.entries) }
     ensures followed { (start chain : Chain) → CachesStand caches.old start chain → G.stands ledger.old chain
         → OnOk result (ends ≡ true → CachesStand caches.new chain chain) }
     ensures same { OnOk result (ends ≡ false → pool.new ≡ pool.old) }
@@ -88,13 +94,14 @@ fn settle<G: Ledger>(
         return Ok(Touched::new(alloc));
     }
     let changed = pool.after_move(ledger)?;
+    fees.follow(pool.last_changes());
     caches.follow(alloc, ledger)?;
     Ok(changed)
 }
 
 /// Makes the next move of a tip line: so many blocks of the chain are taken back, and the first of the rest
-/// are put in. Where it is refused, no block is left. With the last move, and with a later one that is refused,
-/// the set is sifted and the caches are brought to the chain.
+/// are put in. Where it is refused, no block is left. With the last move, and with a later one that is
+/// refused, the set is sifted and the caches are brought to the chain.
 ///
 /// # Errors
 ///
@@ -144,7 +151,14 @@ pub fn move_once<W: Threads + Sync, G: Ledger, A: Archive>(
     } = make_move(rt, alloc, ledger, back, rest, archive, pace)?;
     caches.take_back(top, taken(moved, back));
     let ends = ends_line(&left, moved, later);
-    let changed = settle(alloc, ledger, &mut holdings.pool, caches, ends)?;
+    let changed = settle(
+        alloc,
+        ledger,
+        &mut holdings.pool,
+        &mut holdings.fees,
+        caches,
+        ends,
+    )?;
     Ok(Step {
         answer,
         left,

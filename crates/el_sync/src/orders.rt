@@ -271,11 +271,17 @@ fn order_line<W: Threads + Sync, G: Ledger, A: Archive>(
         }
         Ok(NodeLine::Tip(h)) => order_tip(rt, alloc, ledger, holdings, caches, archive, h, pace),
         Ok(NodeLine::Tx(bytes)) => {
-            let told = order_tx(alloc, ledger, &mut holdings.pool, bytes.as_slice())?;
+            let told = order_tx(
+                alloc,
+                ledger,
+                &mut holdings.pool,
+                &mut holdings.fees,
+                bytes.as_slice(),
+            )?;
             Ok(pool_step(alloc, told))
         }
         Ok(NodeLine::Drop(id)) => {
-            let told = order_drop(alloc, &mut holdings.pool, id)?;
+            let told = order_drop(alloc, &mut holdings.pool, &mut holdings.fees, id)?;
             Ok(pool_step(alloc, told))
         }
         Err(NodeLineFault::Line) => Ok(refusing(alloc, NodeRefusal::Line)),

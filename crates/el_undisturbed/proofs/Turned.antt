@@ -70,14 +70,14 @@ module _ {A : Type 0} (of_files : block_files.Ghosts A) (records : Records of_fi
     (outs : Outs) (losses : List Deed) (none : NoneLost losses) (left : World) (ends : AllGrow left.side.files end) where
   answered : (p : ℕ) (bytes : List ℕ) (session : Session) → find (is_peer p) world.sessions ≡ Some session
       → IsAnswered of_files.tells world p bytes session outs losses left → Turned outs left
-  answered p bytes session is (world_of.replied reply kept comes o n) =
+  answered p bytes session is (world_of.replied reply kept desk comes o n) =
       let client' = found_client (is_peer p) world.sessions session keeps.none is in
       let not_so : p ≢ 0 = rw (← found_peer p world.sessions session is) client' in
-      rw (o, n) (by_clients world _ _ keeps (replied_side p reply session kept world) (replied_no_node p reply session kept world client' keeps.none)
+      rw (o, n) (by_clients world _ _ keeps (replied_side p reply session kept (record world { desk = desk })) (replied_no_node p reply session kept (record world { desk = desk }) client' keeps.none)
       (all_to p (option_to_list reply.text) not_so) (version_due p reply.closes))
-  answered p bytes session is (world_of.starved e kept comes o n) =
+  answered p bytes session is (world_of.starved e kept desk comes o n) =
       rw (o, n) (by_clients world _ _ keeps refl (without_no_node p world keeps.none) tt tt)
-  answered p bytes session is (world_of.uncounted reply kept comes more o n) =
+  answered p bytes session is (world_of.uncounted reply kept desk comes more o n) =
       rw (o, n) (by_clients world _ _ keeps refl (without_no_node p world keeps.none) tt tt)
 
   replied : (p : ℕ) (bytes : List ℕ) (found : Option Session) → find (is_peer p) world.sessions ≡ found

@@ -6,12 +6,12 @@ ghost use Rattle.el_chain.specs.declared.node.Node as shape;
 ghost use Rattle.el_base.specs.Left.{AreBytes};
 ghost use Rattle.el_files.specs.Scanning.{AllScanned};
 ghost use Rattle.el_methods.specs.Archives.{WasWritten};
-ghost use Rattle.el_sessions.specs.declared.session.Session as client;
 ghost use Rattle.el_replies.specs.LineReplies.{IsLineReply};
+ghost use Rattle.el_replies.specs.Spending.{spent};
 ghost use Rattle.el_replies.specs.declared.line.LineReply as line;
 ghost use Rattle.el_side.specs.Deeds.{Deed, NoneLost};
 ghost use Rattle.el_side.specs.Side.{Side, IsSure};
-ghost use Rattle.el_world.specs.World.{World, Comes};
+ghost use Rattle.el_world.specs.World.{World, Standing, Comes};
 ghost use Rattle.el_world.specs.Run.{Run, Halts, Stop, by_memory, files_left};
 ghost use Rattle.el_undisturbed.specs.HasAll.{HasAll, HasBlockOf};
 ghost use Rattle.el_undisturbed.specs.WholeRecords.{HoldBytesAlone, NoneHalfWritten, ShowWholeRecords};
@@ -66,9 +66,11 @@ pub fn runs_are_undisturbed<A: Archive>()
 /// Where no call of a device fails while a client's line is answered, over block files that have all, each of
 /// its requests is answered as it is defined.
 pub fn lines_are_answered_as_defined<A: Archive>()
-    ensures { (side : Side) (bytes : List ℕ) (was now : client.Session) (reply : line.LineReply) → A.tells
-        → IsSure side → HasAll side → Comes A.tells side bytes was [] now (Ok reply)
-        → IsLineReply (AnswersAsDefined side) bytes [] was [] now (Ok reply) }
+    ensures { (side : Side) (bytes : List ℕ) (was now : Standing) (deeds : List Deed) (reply : line.LineReply)
+        → A.tells → IsSure side → HasAll side → NoneLost deeds
+        → Comes A.tells side bytes was deeds now (Ok reply)
+        → IsLineReply (AnswersAsDefined side) bytes (spent [] was.desk) was.client (spent deeds now.desk)
+        now.client (Ok reply) }
 {
     records_stay();
     blocks_have_asked();

@@ -40,7 +40,8 @@ use Rattle.el_replies.specs.declared.batch.TheConstants.{BATCH_LIMIT}
 use Rattle.el_replies.specs.declared.line.LineReply.{LineReply}
 use Rattle.el_subs.specs.Told.{status, AllTold}
 use Rattle.el_side.specs.Side.{Side, IsSure}
-use Rattle.el_world.specs.World.{Comes}
+use Rattle.el_world.specs.World.{Standing, Comes}
+use Rattle.el_replies.specs.Spending.{Spent, spent}
 
 -- 1. What each request keeps, each line does
 
@@ -161,7 +162,7 @@ module _ (chain : Chain) (kept : List Tx) where
   call_keeps found (call.GetMempool h) s was = same_session s (result.get_mempool chain kept h.0) was
   call_keeps found (call.ListUnspent h) s was = same_session s (result.list_unspent chain kept h.0) was
   call_keeps found (call.ScriptHashSubscribe h) s was = one_more s h was
-  call_keeps found call.Broadcast s was = was
+  call_keeps found (call.Broadcast bytes) s was = was
   call_keeps found (call.TransactionGet id verbose) s was =
       same_session s (result.transaction_get chain kept id verbose) was
   call_keeps found (call.GetMerkle id height) s was = same_session s (result.get_merkle chain id height) was
@@ -180,23 +181,24 @@ module _ (tells : Type 0) (side : Side) (sure : IsSure side) where
           reply_keeps (IsAllTold side.chain side.kept) (replied side.chain side.kept side.found s c) s t given
           (is.of_index sure e) (call_keeps side.chain side.kept side.found c s was) was
 
-  request_keeps : (before next : List Deed) (r : Request) (s t : Session) (answered : Result Data Refusal)
+  request_keeps : (before next : Spent) (r : Request) (s t : Session) (answered : Result Data Refusal)
       → AnswersOf tells side before r s answered next t
       → IsAllTold side.chain side.kept s → IsAllTold side.chain side.kept t
   request_keeps before next r s t answered is was = by is.0 is.1
     where
-      by : (lost : List Deed) → IsTold tells side r s answered t lost → IsAllTold side.chain side.kept t
-      by lost (answer.refused e asks says same unlost) = subst (IsAllTold side.chain side.kept) (sym same) was
-      by lost (answer.asked c given asks says gives loses) = given_keeps c s t given gives was
+      by : (does : Spent) → IsTold tells side r s answered t before.desk does → IsAllTold side.chain side.kept t
+      by does (answer.refused e asks says same none) = subst (IsAllTold side.chain side.kept) (sym same) was
+      by does (answer.asked c given asks plain says gives loses) = given_keeps c s t given gives was
+      by does (answer.broadcast c bytes by' asks raw reason says same is) = subst (IsAllTold side.chain side.kept) (sym same) was
 
 -- 3. A line of a client
 
 -- Where each subscription was told its status, it is after a line that is replied to.
-pub replies_keep_told : (tells : Type 0) (side : Side) (bytes : List ℕ) (was now : Session)
-    (losses : List Deed) (reply : LineReply) → IsSure side → AllTold (status side.chain side.kept) was.subs
+pub replies_keep_told : (tells : Type 0) (side : Side) (bytes : List ℕ) (was now : Standing)
+    (losses : List Deed) (reply : LineReply) → IsSure side → AllTold (status side.chain side.kept) was.client.subs
     → Comes tells side bytes was losses now (Ok reply)
-    → AllTold (status side.chain side.kept) now.subs
+    → AllTold (status side.chain side.kept) now.client.subs
 replies_keep_told tells side bytes was now losses reply sure told comes =
     line_keeps (AnswersOf tells side) (IsAllTold side.chain side.kept)
     (λ x y r s t answered is. request_keeps tells side sure x y r s t answered is)
-    (line_says bytes) [] losses was now reply comes told
+    (line_says bytes) (spent [] was.desk) (spent losses now.desk) was.client now.client reply comes told

@@ -60,14 +60,14 @@ module _ {A : Type 0} (of_files : block_files.Ghosts A) (world : World) (sure : 
   answered : (p : ℕ) (bytes : List ℕ) (session : Session) (outs : Outs) (losses : List Deed) (left : World)
       → find (is_peer p) world.sessions ≡ Some session
       → IsAnswered of_files.tells world p bytes session outs losses left → Turned world outs left
-  answered p bytes session outs losses left is (world_of.replied reply kept comes o n) =
+  answered p bytes session outs losses left is (world_of.replied reply kept desk comes o n) =
       let client' = found_client (is_peer p) world.sessions session all is in
       let not_so : p ≢ 0 = rw (← found_peer p world.sessions session is) client' in
       rw (o, n) (to_clients (all_to p (option_to_list reply.text) not_so)
-      (replied_side p reply session kept world) (replied_no_node p reply session kept world client' all))
-  answered p bytes session outs losses left is (world_of.starved e kept comes o n) =
+      (replied_side p reply session kept (record world { desk = desk })) (replied_no_node p reply session kept (record world { desk = desk }) client' all))
+  answered p bytes session outs losses left is (world_of.starved e kept desk comes o n) =
       rw (o, n) (to_clients tt refl (without_no_node p world all))
-  answered p bytes session outs losses left is (world_of.uncounted reply kept comes more o n) =
+  answered p bytes session outs losses left is (world_of.uncounted reply kept desk comes more o n) =
       rw (o, n) (to_clients tt refl (without_no_node p world all))
 
   replied : (p : ℕ) (bytes : List ℕ) (found : Option Session) (outs : Outs) (losses : List Deed)

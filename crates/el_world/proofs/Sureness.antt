@@ -98,9 +98,9 @@ led_sure leads world first outs losses next sure l = ap (λ (w : World). w.side.
 module _ {A : Type 0} (of_files : block_files.Ghosts A) (world : World) (outs : Outs) (losses : List Deed) (next : World) where
   answered_sure : (p : ℕ) (bytes : List ℕ) (session : Session) → IsAnswered of_files.tells world p bytes session outs losses next
       → next.side.sure ≡ world.side.sure
-  answered_sure p bytes session (world_of.replied reply kept comes o n) = world_as world n (replied_side p reply session kept world)
-  answered_sure p bytes session (world_of.starved e kept comes o n) = world_as world n refl
-  answered_sure p bytes session (world_of.uncounted reply kept comes more o n) = world_as world n refl
+  answered_sure p bytes session (world_of.replied reply kept desk comes o n) = world_as world n (replied_side p reply session kept (record world { desk = desk }))
+  answered_sure p bytes session (world_of.starved e kept desk comes o n) = world_as world n refl
+  answered_sure p bytes session (world_of.uncounted reply kept desk comes more o n) = world_as world n refl
 
   replied_sure : (p : ℕ) (bytes : List ℕ) (found : Option Session) → Replied of_files.tells world p bytes found outs losses next
       → next.side.sure ≡ world.side.sure

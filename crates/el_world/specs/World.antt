@@ -22,7 +22,9 @@ use Rattle.el_lines.specs.declared.node_answer.NodeAnswer.{NodeAnswer}
 use Rattle.el_side.specs.Plans.{IsMoving}
 use Rattle.el_sessions.specs.declared.session.Session as client
 use Rattle.el_sessions.specs.Sessions.{HasAdded}
+use Rattle.el_relay.specs.Desk.{DeskState, empty_desk}
 use Rattle.el_replies.specs.Losses.{AnswersOf}
+use Rattle.el_replies.specs.Spending.{spent}
 use Rattle.el_replies.specs.LineReplies.{IsLineReply}
 use Rattle.el_replies.specs.declared.line.LineReply.{LineReply}
 use Rattle.el_subs.specs.Told.{status}
@@ -54,17 +56,23 @@ abbrev pub new_session : ℕ → Session
 new_session p = record { peer = p; heard = []; client = new_client; waits = false }
 
 -- What the server knows: the side that the node leads; its clients in the order in which they came; all
--- bytes that the node has sent; and the tip before the node's last line.
+-- bytes that the node has sent; the tip before the node's last line; and what the desk of broadcasts keeps.
 pub record World : Type 0 where
   pub side : Side
   pub sessions : List Session
   pub heard : List ℕ
   pub before : Option Hash32
+  pub desk : DeskState
 
--- the world of a chain before any client came and the node said anything
-abbrev pub initial_world : Bool → Chain → List ℕ → PoolLimits → List Node → (ℕ → List ℕ) → World
-initial_world sure chain magic limits found files =
-    record { side = quiet_side sure chain magic limits found files; sessions = []; heard = []; before = None }
+-- the world of a chain before any client came and the node said anything; the desk of broadcasts may be on
+abbrev pub initial_world : Bool → Chain → List ℕ → PoolLimits → List Node → (ℕ → List ℕ) → Bool → World
+initial_world sure chain magic limits found files relays = record {
+  side = quiet_side sure chain magic limits found files;
+  sessions = [];
+  heard = [];
+  before = None;
+  desk = empty_desk relays;
+}
 
 -- the session is that of this client
 abbrev pub is_peer : ℕ → Session → Bool
@@ -78,7 +86,7 @@ is_client p world = list_any (is_peer p) world.sessions
 abbrev pub with_client : ℕ → World → World
 with_client p world = record world { sessions = world.sessions ++ new_session p ∷ [] }
 
--- the same without this client
+-- the world without this client
 abbrev pub without_client : ℕ → World → World
 without_client p world =
     record world { sessions = filter (λ (session : Session). not (is_peer p session)) world.sessions }
@@ -196,32 +204,43 @@ after_reply p reply session kept world =
     if reply.closes then without_client p world
     else with_session p (record session { client = kept }) world
 
+-- what is kept for a client's requests: of the client, and of the desk of broadcasts
+pub record Standing : Type 0 where
+  pub client : client.Session
+  pub desk : DeskState
+
+-- these two as one
+abbrev pub standing : client.Session → DeskState → Standing
+standing session desk = record { client = session; desk = desk }
+
 -- What comes of a client's line over the side: each of its requests is answered as it is defined, or that a
--- device failed, which is lost. A request that reads the block files is answered as it is defined where these
--- have the transaction that it asks for at its place; whatever they have, never with another one's bytes, nor
--- as if the chain had none. Of a side that is unsure no more is said of what the chain and the unconfirmed
--- set give than that it is an answer.
-abbrev pub Comes : Type 0 → Side → List ℕ → client.Session → List Deed → client.Session
-    → Result LineReply OutOfMemory → Type 0
+-- device failed, which is lost. A broadcast goes to the desk. A request that reads the block files is
+-- answered as it is defined where these have the transaction that it asks for at its place; whatever they
+-- have, never with another one's bytes, nor as if the chain had none. Of a side that is unsure no more is
+-- said of what the chain and the unconfirmed set give than that it is an answer. `was` is what the line
+-- finds, `now` what it leaves, and `losses` are the deeds meanwhile.
+abbrev pub Comes : Type 0 → Side → List ℕ → Standing → List Deed → Standing → Result LineReply OutOfMemory
+    → Type 0
 Comes tells side bytes was losses now result =
-    IsLineReply (AnswersOf tells side) bytes [] was losses now result
+    IsLineReply (AnswersOf tells side) bytes (spent [] was.desk) was.client (spent losses now.desk) now.client
+    result
 
 -- A line of a client with this session gets its reply; or no memory was found for it, or to keep count of
 -- what the line subscribed to, and the client is closed.
 pub data IsAnswered (tells : Type 0) (world : World) (p : ℕ) (bytes : List ℕ) (session : Session)
     (outs : Outs) (losses : List Deed) (next : World) : Type 0 where
-  replied : (reply : LineReply) (kept : client.Session)
-      → Comes tells world.side bytes session.client losses kept (Ok reply)
-      → outs ≡ outs_of_reply p reply → next ≡ after_reply p reply session kept world
+  replied : (reply : LineReply) (kept : client.Session) (desk : DeskState)
+      → Comes tells world.side bytes (standing session.client world.desk) losses (standing kept desk) (Ok reply)
+      → outs ≡ outs_of_reply p reply → next ≡ after_reply p reply session kept (record world { desk = desk })
       → IsAnswered tells world p bytes session outs losses next
-  starved : (e : OutOfMemory) (kept : client.Session)
-      → Comes tells world.side bytes session.client losses kept (Err e)
-      → outs ≡ closes_memory p → next ≡ without_client p world
+  starved : (e : OutOfMemory) (kept : client.Session) (desk : DeskState)
+      → Comes tells world.side bytes (standing session.client world.desk) losses (standing kept desk) (Err e)
+      → outs ≡ closes_memory p → next ≡ without_client p (record world { desk = desk })
       → IsAnswered tells world p bytes session outs losses next
-  uncounted : (reply : LineReply) (kept : client.Session)
-      → Comes tells world.side bytes session.client losses kept (Ok reply)
+  uncounted : (reply : LineReply) (kept : client.Session) (desk : DeskState)
+      → Comes tells world.side bytes (standing session.client world.desk) losses (standing kept desk) (Ok reply)
       → HasAdded session.client.subs kept.subs
-      → outs ≡ closes_memory p → next ≡ without_client p world
+      → outs ≡ closes_memory p → next ≡ without_client p (record world { desk = desk })
       → IsAnswered tells world p bytes session outs losses next
 
 -- The event sends and closes this, loses nothing, and leaves that world.

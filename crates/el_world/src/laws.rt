@@ -2,24 +2,24 @@
 ghost use Rattle.std.specs.Prelude.{◌≡◌, ℕ, List, [], Ok};
 ghost use Rattle.el_side.specs.Deeds.{Deed};
 ghost use Rattle.el_outside.specs.Trace.{ArrivalWithBytes, Message, Closing};
-ghost use Rattle.el_sessions.specs.declared.session.Session as client;
 ghost use Rattle.el_replies.specs.declared.line.LineReply as line;
 ghost use Rattle.el_side.specs.Side.{Side, IsSure};
 ghost use Rattle.el_subs.specs.Told.{status, AllTold};
-ghost use Rattle.el_world.specs.World.{World, Comes};
+ghost use Rattle.el_world.specs.World.{World, Standing, Comes};
 ghost use Rattle.el_world.specs.Run.{Run, Halts, Stop};
 ghost use Rattle.el_world.specs.Flights.{acked};
 ghost use Rattle.el_world.specs.LastTold.{IsLastTold};
 
 use el_outside::Archive;
 
-/// Where each of a client's subscriptions was told its status over a sure side, each is after a line of it that
-/// is replied to: `blockchain.scripthash.subscribe` alone changes them, and notes the status that it answers.
+/// Where each of a client's subscriptions was told its status over a sure side, each is after a line of it
+/// that is replied to: `blockchain.scripthash.subscribe` alone changes them, and notes the status that it
+/// answers.
 pub fn replies_keep_told<A: Archive>()
-    ensures { (side : Side) (bytes : List ℕ) (was now : client.Session) (losses : List Deed)
-        (reply : line.LineReply) → IsSure side → AllTold (status side.chain side.kept) was.subs
+    ensures { (side : Side) (bytes : List ℕ) (was now : Standing) (losses : List Deed)
+        (reply : line.LineReply) → IsSure side → AllTold (status side.chain side.kept) was.client.subs
         → Comes A.tells side bytes was losses now (Ok reply)
-        → AllTold (status side.chain side.kept) now.subs }
+        → AllTold (status side.chain side.kept) now.client.subs }
 {}
 
 /// The chain of a world is the one that the node was told last, by the last `at` line that was sent in the

@@ -6,6 +6,8 @@ use Rattle.el_base.specs.declared.hash.Hash32.{Hash32}
 use Rattle.el_base.specs.declared.memory.OutOfMemory.{OutOfMemory}
 use Rattle.el_chain.specs.Chains.{Chain}
 use Rattle.el_mempool.specs.Standing.{StandsFor}
+use Rattle.el_relay.specs.Desk.{DeskState}
+use Rattle.el_replies.specs.Spending.{AskedGhosts, Asking, Did}
 use Rattle.el_side.specs.Deeds.{Deed}
 use Rattle.el_lines.specs.Lines.{LineEvent, line, lines}
 use Rattle.el_sessions.specs.Sessions.{HasAdded}
@@ -16,7 +18,7 @@ use Rattle.el_subs.specs.Notices.{notices, notified, IsNotice}
 use Rattle.el_side.specs.declared.holdings.Holdings.{Holdings}
 use Rattle.el_side.specs.Side.{Side, IsSure}
 use Rattle.el_world.specs.World as model
-use Rattle.el_world.specs.World.{client_limit, line_limit, new_client, Comes, StaysSubscribed, outs_of_reply, texts_to, closes_long, closes_memory, closes_disk, closes_surplus}
+use Rattle.el_world.specs.World.{client_limit, line_limit, new_client, standing, Comes, StaysSubscribed, outs_of_reply, texts_to, closes_long, closes_memory, closes_disk, closes_surplus}
 use Rattle.el_lines.specs.LineStates.{LineState, IsAt, as_listed}
 use Rattle.el_lines.specs.declared.line_buffer.LineEvent as met
 use Rattle.el_lines.specs.declared.line_buffer.LineEvent.TheVariants as event
@@ -49,7 +51,7 @@ all_wait clients = map (λ (c : ClientState). record c { waits = true }) clients
 abbrev pub begun_at : {G : Type 0} → Option Hash32 → State G → State G
 begun_at tip s = record s { clients = all_wait s.clients; before = tip; touched = [] }
 
--- the bytes were fed
+-- the lines are those after these bytes were fed too
 abbrev pub IsFed : LineState → List ℕ → LineState → Type 0
 IsFed b bytes next = (fed : List ℕ) (given : ℕ) → IsAt b fed given → IsAt next (fed ++ bytes) given
 
@@ -104,19 +106,38 @@ abbrev pub NextIsLine : LineState → Type 0
 NextIsLine b = (fed : List ℕ) (given : ℕ) → IsAt b fed given → given ≤ length (lines b.limit fed)
     → (bytes : List ℕ) × (slice_get (lines b.limit fed) given ≡ Some (line bytes))
 
+-- What a turn finds and leaves beside the clients: what the desk of broadcasts kept, and what it keeps; and
+-- what these deeds show of the devices.
+pub record Passing : Type 1 where
+  pub was : DeskState
+  pub now : DeskState
+  pub did : List Deed → Type 0
+
+-- what passes between these two moments
+abbrev pub passing : {G A Y : Type 0} → AskedGhosts G A Y → Asking G A Y → Asking G A Y → Passing
+passing of was now = record { was = was.desk; now = now.desk; did = Did of was now }
+
+-- no device was asked
+pub record IsIdly (rose : Passing) : Type 0 where
+  pub desk : rose.now ≡ rose.was
+  pub did : rose.did []
+
 -- What comes of a line of a client over the side: it gets what the line is replied, and may then be closed;
 -- or no memory was found for that, or to keep count of what it subscribed to. `was` is what is kept of it for
--- its requests, and then `now`; `rose` says by which losses the counts rose.
-pub data LineAnswered (tells : Type 0) (side : Side) (rose : List Deed → Type 0) (p : ℕ) (bytes : List ℕ)
+-- its requests, and then `now`; `rose` says what passed meanwhile.
+pub data LineAnswered (tells : Type 0) (side : Side) (rose : Passing) (p : ℕ) (bytes : List ℕ)
     (was now : known.Session) (outs : model.Outs) (stays : Bool) : Type 0 where
-  replied : (losses : List Deed) (reply : LineReply) → Comes tells side bytes was losses now (Ok reply)
-      → outs ≡ outs_of_reply p reply → stays ≡ not reply.closes → rose losses
+  replied : (losses : List Deed) (reply : LineReply)
+      → Comes tells side bytes (standing was rose.was) losses (standing now rose.now) (Ok reply)
+      → outs ≡ outs_of_reply p reply → stays ≡ not reply.closes → rose.did losses
       → LineAnswered tells side rose p bytes was now outs stays
-  starved : (losses : List Deed) (e : OutOfMemory) → Comes tells side bytes was losses now (Err e)
-      → outs ≡ closes_memory p → stays ≡ false → rose losses
+  starved : (losses : List Deed) (e : OutOfMemory)
+      → Comes tells side bytes (standing was rose.was) losses (standing now rose.now) (Err e)
+      → outs ≡ closes_memory p → stays ≡ false → rose.did losses
       → LineAnswered tells side rose p bytes was now outs stays
-  uncounted : (losses : List Deed) (reply : LineReply) → Comes tells side bytes was losses now (Ok reply)
-      → HasAdded was.subs now.subs → outs ≡ closes_memory p → stays ≡ false → rose losses
+  uncounted : (losses : List Deed) (reply : LineReply)
+      → Comes tells side bytes (standing was rose.was) losses (standing now rose.now) (Ok reply)
+      → HasAdded was.subs now.subs → outs ≡ closes_memory p → stays ≡ false → rose.did losses
       → LineAnswered tells side rose p bytes was now outs stays
 
 -- the client, where it stays
@@ -125,22 +146,22 @@ left_if true c = Some c
 left_if false c = None
 
 -- what is sent or closed for an event of this client, what is then kept of it, and whether it stays
-abbrev pub Answers : Type 0 → Side → (List Deed → Type 0) → ℕ → met.LineEvent → known.Session
+abbrev pub Answers : Type 0 → Side → Passing → ℕ → met.LineEvent → known.Session
     → known.Session → model.Outs → Bool → Type 0
 Answers tells side rose p (event.Line bytes) was now outs stays =
     LineAnswered tells side rose p bytes was now outs stays
 Answers tells side rose p (event.TooLong limit) was now outs stays =
-    (outs ≡ closes_long p) × (stays ≡ false) × rose []
+    (outs ≡ closes_long p) × (stays ≡ false) × IsIdly rose
 
 -- a turn of a client
-pub data ClientTurn (tells : Type 0) (side : Side) (rose : List Deed → Type 0) (c : ClientState)
+pub data ClientTurn (tells : Type 0) (side : Side) (rose : Passing) (c : ClientState)
     (outs : Option Outs) (next : Option ClientState) : Type 0 where
   -- bytes of it were lost
   loses : (o : Outs) → c.lost ≡ true → outs ≡ Some o → outs_of o ≡ closes_memory c.peer → next ≡ None
-      → rose [] → ClientTurn tells side rose c outs next
+      → IsIdly rose → ClientTurn tells side rose c outs next
   -- no memory for its next line
   departs : (o : Outs) → c.lost ≡ false → NextIsLine c.buffer → outs ≡ Some o
-      → outs_of o ≡ closes_memory c.peer → next ≡ None → rose [] → ClientTurn tells side rose c outs next
+      → outs_of o ≡ closes_memory c.peer → next ≡ None → IsIdly rose → ClientTurn tells side rose c outs next
   -- its next event
   answers : (o : Outs) (e : met.LineEvent) (b : LineState) (now : known.Session) (stays : Bool)
       → c.lost ≡ false → b.limit ≡ c.buffer.limit → Gives c.buffer (as_listed e) b
@@ -148,7 +169,7 @@ pub data ClientTurn (tells : Type 0) (side : Side) (rose : List Deed → Type 0)
       → next ≡ left_if stays (record c { buffer = b; session = now }) → outs ≡ Some o
       → ClientTurn tells side rose c outs next
   -- no line is left
-  waits : IsHeardOut c → outs ≡ None → next ≡ Some c → rose [] → ClientTurn tells side rose c outs next
+  waits : IsHeardOut c → outs ≡ None → next ≡ Some c → IsIdly rose → ClientTurn tells side rose c outs next
 
 -- A turn of the client at that place, which is left or not: what `says` says of both.
 pub record TurnsAt (says : ClientState → Option ClientState → Type 0) (i : ℕ) (clients : List ClientState)
@@ -169,25 +190,26 @@ speaker_after (Some o) None = None
 speaker_after (Some o) (Some c) = Some c.peer
 
 -- a turn of the client that speaks, if there is one
-pub data SpeakerSteps {G : Type 0} (tells : Type 0) (side : Side) (rose : List Deed → Type 0) (s : State G)
+pub data SpeakerSteps {G : Type 0} (tells : Type 0) (side : Side) (rose : Passing) (s : State G)
     (outs : Option Outs) (next : State G) : Type 0 where
-  nobody : s.speaker ≡ None → outs ≡ None → next ≡ s → rose [] → SpeakerSteps tells side rose s outs next
+  nobody : s.speaker ≡ None → outs ≡ None → next ≡ s → IsIdly rose → SpeakerSteps tells side rose s outs next
   gone : (p : ℕ) → s.speaker ≡ Some p → IsPlace p s.clients None → outs ≡ None
-      → next ≡ record s { speaker = None } → rose [] → SpeakerSteps tells side rose s outs next
+      → next ≡ record s { speaker = None } → IsIdly rose → SpeakerSteps tells side rose s outs next
   steps : (p i : ℕ) (c : ClientState) (left : Option ClientState) → s.speaker ≡ Some p
       → slice_get s.clients i ≡ Some c → c.peer ≡ p → ClientTurn tells side rose c outs left
       → next ≡ record s {
         ledger = next.ledger;
         caches = next.caches;
+        desk = next.desk;
         clients = replaced i left s.clients;
         speaker = speaker_after outs left;
       } → SpeakerSteps tells side rose s outs next
 
 -- a turn where the node has nothing left: a client too many is closed, or the client that speaks has its turn
-pub data PeersTurn {G : Type 0} (tells : Type 0) (side : Side) (rose : List Deed → Type 0) (s : State G)
+pub data PeersTurn {G : Type 0} (tells : Type 0) (side : Side) (rose : Passing) (s : State G)
     (outs : Option Outs) (next : State G) : Type 0 where
   closes : (p : ℕ) (o : Outs) → s.surplus ≡ Some p → outs ≡ Some o → outs_of o ≡ closes_surplus p
-      → next ≡ record s { surplus = None } → rose [] → PeersTurn tells side rose s outs next
+      → next ≡ record s { surplus = None } → IsIdly rose → PeersTurn tells side rose s outs next
   has_turn : s.surplus ≡ None → SpeakerSteps tells side rose s outs next
       → PeersTurn tells side rose s outs next
 
@@ -200,8 +222,8 @@ abbrev pub told_client : Side → ClientState → ClientState
 told_client side c =
     record c { session = notified (status side.chain side.kept) c.session; waits = false }
 
--- From these a client is told over the side: where that is sure, the ledger stands for its chain and the set for
--- what is kept, and each subscription to a script hash that isn't touched was told its status.
+-- From these a client is told over the side: where that is sure, the ledger stands for its chain and the set
+-- for what is kept, and each subscription to a script hash that isn't touched was told its status.
 pub record IsToTell {G : Type 0} (stands : G → Chain → Type 0) (l : G) (holdings : Holdings)
     (touched : List Hash32) (side : Side) (c : ClientState) : Type 0 where
   pub stood : IsSure side → stands l side.chain

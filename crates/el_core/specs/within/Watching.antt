@@ -29,7 +29,8 @@ NoneIdle entries = (s : Hash32) → lookup (same_hash s) entries ≡ Some 0 → 
 abbrev pub Counts : List (Hash32 × ℕ) → List ClientState → Type 0
 Counts entries clients = (s : Hash32) → counted entries s ≡ times s (held_keys clients)
 
--- the same, but of the client at that place its first subscriptions alone are counted, as many as this
+-- The counts beside the script hashes are those of all clients, but of the client at that place its first
+-- subscriptions alone are counted, as many as this.
 abbrev pub CountsFew : ℕ → ℕ → List (Hash32 × ℕ) → List ClientState → Type 0
 CountsFew i few entries clients =
     (c : ClientState) → slice_get clients i ≡ Some c → (s : Hash32) → counted entries s

@@ -1,9 +1,11 @@
 -- What the server has done of an arrival's events, and what went over the link meanwhile.
 use Rattle.std.specs.Prelude.{◌≡◌, ◌≤◌, ◌==◌, ℕ, false, List, [], ◌++◌, length, IsTrue, Option, None, Some, Bool, if◌then◌else◌}
 use Rattle.el_outside.specs.declared.link.Link as link
+use Rattle.el_outside.specs.declared.relay.Relay as relays
+use Rattle.el_replies.specs.Spending.{AskedGhosts, asked_ghosts}
 use Rattle.el_outside.specs.Counts.{RoseBy}
 use Rattle.el_side.specs.Deeds as device
-use Rattle.el_side.specs.Deeds.{Device, Deed, failures, Faults, Rose}
+use Rattle.el_side.specs.Deeds.{Device, Deed, failures, Faults, Rose, Offered}
 use Rattle.el_outside.specs.Files.{AllGrow}
 use Rattle.el_outside.specs.Trace.{Trace, ArrivalWithBytes, Message, Closing, GoesOn, is_open}
 use Rattle.el_chain.specs.Chains.{Chain}
@@ -51,23 +53,30 @@ pub record Delivered {G : Type 0} (stands : G → Chain → Type 0) (tells : Typ
       → is_client q world ≡ false → IsTrue (is_open after q) × (is_client q next ≡ false)
   pub rose : RoseBy low high (failures device.link losses)
 
--- what the types of the ledger, of the block files and of the link tell of them
-pub record AllGhosts (G A K : Type 0) : Type 1 where
+-- what the types of the ledger, of the block files, of the relay and of the link tell of them
+pub record AllGhosts (G A Y K : Type 0) : Type 1 where
   pub beneath : Ghosts G A
+  pub relay : relays.Ghosts Y
   pub link : link.Ghosts K
 
--- what is told of ledger and block files, and of the link, as one
-abbrev pub all_ghosts : {G A K : Type 0} → Ghosts G A → link.Ghosts K → AllGhosts G A K
-all_ghosts of of_link = record { beneath = of; link = of_link }
+-- what is told of ledger and block files, of the relay and of the link, as one
+abbrev pub all_ghosts : {G A Y K : Type 0} → Ghosts G A → relays.Ghosts Y → link.Ghosts K → AllGhosts G A Y K
+all_ghosts of of_relay of_link = record { beneath = of; relay = of_relay; link = of_link }
 
--- the server, the block files and the link between two calls
-pub record Snapshot (G A K : Type 0) : Type 0 where
+-- what a turn is told of
+abbrev pub asked_of : {G A Y K : Type 0} → AllGhosts G A Y K → AskedGhosts G A Y
+asked_of of = asked_ghosts of.beneath of.relay
+
+-- the server, the block files, the relay and the link between two calls
+pub record Snapshot (G A Y K : Type 0) : Type 0 where
   pub server : State G
   pub files : A
+  pub relay : Y
   pub link : K
 
-abbrev pub snapshot : {G A K : Type 0} → State G → A → K → Snapshot G A K
-snapshot server files link = record { server = server; files = files; link = link }
+-- the server, the block files, the relay and the link of one moment, as one value
+abbrev pub snapshot : {G A Y K : Type 0} → State G → A → Y → K → Snapshot G A Y K
+snapshot server files relay link = record { server = server; files = files; relay = relay; link = link }
 
 -- an arrival as it is taken, with a node or without one
 abbrev pub taken_one : Bool → ArrivalWithBytes → ArrivalWithBytes
@@ -78,26 +87,28 @@ pub record CountedSoFar (calls calls_before calls_after : ℕ) (before after : F
   pub called : RoseBy calls_before calls_after calls
   pub more : (device : Device) → before device ≤ after device
 
-module _ {G A K : Type 0} (of : AllGhosts G A K) where
-  -- how often calls of the devices have failed; there is no relay
-  abbrev pub failed : Snapshot G A K → Faults
+module _ {G A Y K : Type 0} (of : AllGhosts G A Y K) where
+  -- how often calls of the devices have failed
+  abbrev pub failed : Snapshot G A Y K → Faults
   failed now =
-      failed_beneath of.beneath (of.link.faults now.link) 0 (beneath now.server.ledger now.files)
+      failed_beneath of.beneath (of.link.faults now.link) (of.relay.faults now.relay) (beneath now.server.ledger now.files)
 
   -- The world's clients are open, and the block files have what the world has of them.
-  pub record IsReady (world : World) (now : Snapshot G A K) : Type 0 where
+  pub record IsReady (world : World) (now : Snapshot G A Y K) : Type 0 where
     pub are_open : of.link.tells → ClientsAreOpen now.server world (of.link.trace now.link)
     pub grown : of.beneath.files.tells → AllGrow world.side.files (of.beneath.files.bytes now.files)
 
-  -- This went over the link meanwhile, and each failed call is one of these losses.
-  pub record WentOn (before now : Snapshot G A K) (arrivals : List ArrivalWithBytes) (messages : List Message)
+  -- This went over the link meanwhile, each failed call is one of these losses, and the relay was offered
+  -- what they say.
+  pub record WentOn (before now : Snapshot G A Y K) (arrivals : List ArrivalWithBytes) (messages : List Message)
       (closings : List Closing) (losses : List Deed) : Type 0 where
     pub trace : of.link.tells
         → GoesOn (of.link.trace before.link) (of.link.trace now.link) arrivals messages closings
     pub rose : Rose (failed before) (failed now) losses
+    pub offered : Offered of.relay before.relay now.relay losses
 
   -- Of these events some are done, and the others are left.
-  pub record Progress (first : World) (all : List Event) (before now : Snapshot G A K) : Type 0 where
+  pub record Progress (first : World) (all : List Event) (before now : Snapshot G A Y K) : Type 0 where
     pub done : List Event
     pub left : List Event
     pub messages : List Message
@@ -111,7 +122,7 @@ module _ {G A K : Type 0} (of : AllGhosts G A K) where
     pub ready : IsReady world now
 
   -- All of these events are done, and the node's last line leaves nothing to do and nobody to be told.
-  pub record Finished (first : World) (all : List Event) (before now : Snapshot G A K) : Type 0 where
+  pub record Finished (first : World) (all : List Event) (before now : Snapshot G A Y K) : Type 0 where
     pub messages : List Message
     pub closings : List Closing
     pub losses : List Deed
@@ -127,7 +138,7 @@ module _ {G A K : Type 0} (of : AllGhosts G A K) where
   -- The run stops among the turns for these events. `leaves` says of two chains that what a crash leaves
   -- stands for the one or for the other.
   pub record Stopped (leaves : Chain → Chain → Type 0) (first : World) (all : List Event) (stop : Stop)
-      (before now : Snapshot G A K) : Type 0 where
+      (before now : Snapshot G A Y K) : Type 0 where
     pub done : List Event
     pub left : List Event
     pub whole : all ≡ done ++ left
@@ -148,7 +159,7 @@ module _ {G A K : Type 0} (of : AllGhosts G A K) where
 
   -- The run stops in this arrival.
   pub record StoppedIn (leaves : Chain → Chain → Type 0) (world : World) (arrival : ArrivalWithBytes)
-      (stop : Stop) (before now : Snapshot G A K) : Type 0 where
+      (stop : Stop) (before now : Snapshot G A Y K) : Type 0 where
     pub messages : List Message
     pub closings : List Closing
     pub losses : List Deed
@@ -160,7 +171,7 @@ module _ {G A K : Type 0} (of : AllGhosts G A K) where
     pub crash : IsSure world.side → leaves (acked stops) flight
 
   -- The arrivals so far, none of which ended the run: as many as `next` was called.
-  pub record Going (first : World) (node : Bool) (count : ℕ) (before now : Snapshot G A K) : Type 0 where
+  pub record Going (first : World) (node : Bool) (count : ℕ) (before now : Snapshot G A Y K) : Type 0 where
     pub arrivals : List ArrivalWithBytes
     pub messages : List Message
     pub closings : List Closing

@@ -19,7 +19,7 @@ use Rattle.el_loop.specs.declared.halt.Halt.TheVariants as halt
 use Rattle.el_loop.specs.declared.end.End.{End}
 use Rattle.el_loop.specs.declared.end.End.TheVariants as end
 
--- how the run stops
+-- how the run stops where sending halts for this cause
 abbrev pub stop_of : Halt → Stop
 stop_of halt.Disk = by_disk
 stop_of halt.Link = by_link

@@ -4,6 +4,7 @@ use Rattle.el_replies.specs.Batches.{Replies}
 use Rattle.el_replies.specs.declared.batch.Gathered.{Gathered}
 use Rattle.el_replies.specs.declared.error_room.TheConstants.{ERROR_SIZE}
 
+-- what is gathered, as contracts see it
 abbrev pub replies_of : Gathered → Replies
 replies_of r = record { text = r.text.items; size = r.size; any = r.any; closes = r.closes }
 

@@ -11,7 +11,7 @@ touched_at touched (sub ∷ subs) zero = is_touched touched sub
 touched_at touched (sub ∷ subs) (suc number) = touched_at touched subs number
 
 module _ (status : Hash32 → Option Hash32) where
-  -- so many of the first are told
+  -- the subscriptions, of which the first so many were told their status
   abbrev pub partly : ℕ → List Subscription → List Subscription
   partly zero subs = subs
   partly (suc i) [] = []

@@ -1,20 +1,24 @@
 use Rattle.std.proofs.Common.{sym, ap, subst, ◌∙◌, refl, List}
+use Rattle.el_replies.specs.Spending.{asked_ghosts}
 use Rattle.el_side.specs.Beneath.{ghosts}
 use Rattle.el_world.specs.World.{closes_memory}
 use Rattle.el_sessions.specs.Sessions.{Subscription, Edits}
 use Rattle.el_sessions.proofs.Subscribing.{edits_same}
 use Rattle.el_core.specs.State.{ClientState}
 use Rattle.el_core.specs.within.Clients.{loses, departs, answers, left_if}
-use Rattle.el_core.proofs.Losing.{lost_none}
+use Rattle.el_core.proofs.Losing.{idly}
 use Rattle.el_core.proofs.client.client_turn.Goals as goal
+use Rattle.std.proofs.Common.{inl}
+use Rattle.el_core.specs.within.RowBounds.{ClientReads, EventReads}
+use Rattle.el_core.proofs.LineRows.{met_reads, none_within, within_more}
 
 pub returns-then-is_lost-clause-turn : goal.returns-then-is_lost-clause-turn
 returns-then-is_lost-clause-turn g c = λ side at'.
-    loses c.closing.result (sym c.is_lost.ensures ∙ c.if-is_lost.true) refl (c.closing.ensures ∙ ap closes_memory c.peer-peer.ensures) refl (lost_none (ghosts g.G.Ledger g.A.Archive) _ _ c.args.archive.now refl)
+    loses c.closing.result (sym c.is_lost.ensures ∙ c.if-is_lost.true) refl (c.closing.ensures ∙ ap closes_memory c.peer-peer.ensures) refl (idly (asked_ghosts (ghosts g.G.Ledger g.A.Archive) g.Y.Relay) _ _ c.args.archive.now c.args.relay.now _ _ refl refl)
 
 pub returns-in-Err-clause-turn : goal.returns-in-Err-clause-turn
 returns-in-Err-clause-turn g c = λ side at'.
-    departs c.closing-in-Err.result (sym c.is_lost.ensures ∙ c.if-is_lost.false) c.in-Err.ensures.line refl (c.closing-in-Err.ensures ∙ ap closes_memory c.peer-peer.ensures) refl (lost_none (ghosts g.G.Ledger g.A.Archive) _ _ c.args.archive.now refl)
+    departs c.closing-in-Err.result (sym c.is_lost.ensures ∙ c.if-is_lost.false) c.in-Err.ensures.line refl (c.closing-in-Err.ensures ∙ ap closes_memory c.peer-peer.ensures) refl (idly (asked_ghosts (ghosts g.G.Ledger g.A.Archive) g.Y.Relay) _ _ c.args.archive.now c.args.relay.now _ _ refl refl)
 
 pub returns-in-Ok-None-clause-done : goal.returns-in-Ok-None-clause-done
 returns-in-Ok-None-clause-done g c =
@@ -45,3 +49,19 @@ pub returns-in-Ok-Some-clause-edits : goal.returns-in-Ok-Some-clause-edits
 returns-in-Ok-Some-clause-edits g c =
     let same = ap (λ (d : ClientState). d.session.subs) c.in-Ok-Some.ensures.same in
     subst (λ (l : List Subscription). Edits l c.answer-outs.new.client.session.subs) same c.answer-outs.ensures.edits
+
+pub returns-then-is_lost-clause-rows : goal.returns-then-is_lost-clause-rows
+returns-then-is_lost-clause-rows g c = λ chain stood cached. none_within (ClientReads chain (g.G.Ledger.buckets c.args.ledger.now) c.args.client.now) _ _ (inl refl) refl
+
+pub returns-in-Err-clause-rows : goal.returns-in-Err-clause-rows
+returns-in-Err-clause-rows g c = λ chain stood cached. none_within (ClientReads chain (g.G.Ledger.buckets c.args.ledger.now) c.args.client.now) _ _ (inl refl) refl
+
+pub returns-in-Ok-None-clause-rows : goal.returns-in-Ok-None-clause-rows
+returns-in-Ok-None-clause-rows g c = λ chain stood cached. none_within (ClientReads chain (g.G.Ledger.buckets c.args.ledger.now) c.args.client.now) _ _ (inl refl) refl
+
+pub returns-in-Ok-Some-clause-rows : goal.returns-in-Ok-Some-clause-rows
+returns-in-Ok-Some-clause-rows g c = λ chain stood cached.
+    let gives = rw c.in-Ok-Some.field-0-is at c.in-Ok-Some.ensures.met in
+    within_more (EventReads chain (g.G.Ledger.buckets c.args.ledger.now) c.in-Ok-Some.met) (ClientReads chain (g.G.Ledger.buckets c.args.ledger.now) c.args.client.now) _ _
+    (met_reads chain (g.G.Ledger.buckets c.args.ledger.now) c.args.client.now c.in-Ok-Some.met c.next_line.new.self.buffer (sym c.is_lost.ensures ∙ c.if-is_lost.false) gives)
+    (c.answer-outs.ensures.rows chain stood cached)

@@ -14,7 +14,7 @@ use Rattle.el_loop.proofs.running.run.Goals as goal
 pub loop-turn-init : goal.loop-turn-init
 loop-turn-init g c = record {
   going = λ first stood nobody files.
-      going_none (all_ghosts (ghosts g.G.Ledger g.A.Archive) g.K.Link) first c.args.options.node _
+      going_none (all_ghosts (ghosts g.G.Ledger g.A.Archive) g.Y.Relay g.K.Link) first c.args.options.node _
       stood nobody c.requires.idle.surplus (λ t. rw files (all_grow_none _));
   live = c.requires.live;
   idle = c.requires.idle;
@@ -26,8 +26,8 @@ loop-turn-init g c = record {
 
 pub returns-clause-ends : goal.returns-clause-ends
 returns-clause-ends g c = λ first stood nobody files.
-    told_spent (all_ghosts (ghosts g.G.Ledger g.A.Archive) g.K.Link) _ first c.args.options.node c.loop-turn._turn
-    c.args.options.turns _ (snapshot c.loop-turn.server c.loop-turn.archive c.loop-turn.link)
+    told_spent (all_ghosts (ghosts g.G.Ledger g.A.Archive) g.Y.Relay g.K.Link) _ first c.args.options.node c.loop-turn._turn
+    c.args.options.turns _ (snapshot c.loop-turn.server c.loop-turn.archive c.loop-turn.relay c.loop-turn.link)
     (λ chain stood told left now. inl (g.met.G.Ledger.leaves_own c.loop-turn.server.ledger chain left told
     c.loop-turn.invariant.live stood now)) nobody
     (c.loop-turn.invariant.going first stood nobody files) (let h = c.loop-turn-test.false in
@@ -54,8 +54,8 @@ returns-in_default-clause-keeps g c = c.loop-turn.invariant.keeps
 
 pub returns-in_default-clause-ends : goal.returns-in_default-clause-ends
 returns-in_default-clause-ends g c = λ first stood nobody files.
-    told_failed (all_ghosts (ghosts g.G.Ledger g.A.Archive) g.K.Link) _ first c.args.options.node c.loop-turn._turn
-    c.args.options.turns _ (snapshot c.loop-turn.server c.loop-turn.archive c.loop-turn.link) c.next.new.self
+    told_failed (all_ghosts (ghosts g.G.Ledger g.A.Archive) g.Y.Relay g.K.Link) _ first c.args.options.node c.loop-turn._turn
+    c.args.options.turns _ (snapshot c.loop-turn.server c.loop-turn.archive c.loop-turn.relay c.loop-turn.link) c.next.new.self
     (λ chain stood told left now. inl (g.met.G.Ledger.leaves_own c.loop-turn.server.ledger chain left told
     c.loop-turn.invariant.live stood now)) nobody
     (c.loop-turn.invariant.going first stood nobody files) c.in_default.ensures.none_taken
@@ -73,13 +73,13 @@ returns-in-Err-clause-ends g c = λ first stood nobody files.
     c.in-Ok.ensures.lawful
     c.in-Ok.ensures.took in
     let stopped = c.in-Err.ensures.stopped going.world going.stood going.told going.ready.grown are in
-    rw c.end.ensures (told_halt (all_ghosts (ghosts g.G.Ledger g.A.Archive) g.K.Link) first c.args.options.node _
+    rw c.end.ensures (told_halt (all_ghosts (ghosts g.G.Ledger g.A.Archive) g.Y.Relay g.K.Link) first c.args.options.node _
     c.args.options.turns
-    (snapshot c.args.server.now c.args.archive.now c.args.link.now)
-    (snapshot c.serve_arrival.new.server c.serve_arrival.new.archive c.serve_arrival.new.link) c.in-Err.halt
-    (told_stopped (all_ghosts (ghosts g.G.Ledger g.A.Archive) g.K.Link) _ first c.args.options.node c.loop-turn._turn
+    (snapshot c.args.server.now c.args.archive.now c.args.relay.now c.args.link.now)
+    (snapshot c.serve_arrival.new.server c.serve_arrival.new.archive c.serve_arrival.new.relay c.serve_arrival.new.link) c.in-Err.halt
+    (told_stopped (all_ghosts (ghosts g.G.Ledger g.A.Archive) g.Y.Relay g.K.Link) _ first c.args.options.node c.loop-turn._turn
     c.args.options.turns (with_bytes c.in-Ok.arrival c.next.new.buf) _
-    (snapshot c.loop-turn.server c.loop-turn.archive c.loop-turn.link) c.next.new.self _
+    (snapshot c.loop-turn.server c.loop-turn.archive c.loop-turn.relay c.loop-turn.link) c.next.new.self _
     (stop_of c.in-Err.halt) nobody
     going c.in-Ok.ensures.took c.in-Ok.ensures.cause.uncounted
     (rw c.serve_arrival.ensures.same_calls c.next.ensures.called)
@@ -101,14 +101,14 @@ returns-then-ends-clause-ends g c = λ first stood nobody files.
     c.in-Ok.ensures.lawful
     c.in-Ok.ensures.took in
     let done = c.in_default-serve_arrival.ensures.served going.world going.stood going.told going.ready.grown are in
-    told_ended (all_ghosts (ghosts g.G.Ledger g.A.Archive) g.K.Link) _ first c.args.options.node c.loop-turn._turn
+    told_ended (all_ghosts (ghosts g.G.Ledger g.A.Archive) g.Y.Relay g.K.Link) _ first c.args.options.node c.loop-turn._turn
     c.args.options.turns (with_bytes c.in-Ok.arrival c.next.new.buf) _
-    (snapshot c.serve_arrival.new.server c.serve_arrival.new.archive c.serve_arrival.new.link)
+    (snapshot c.serve_arrival.new.server c.serve_arrival.new.archive c.serve_arrival.new.relay c.serve_arrival.new.link)
     (λ chain stood told left now. inl (g.met.G.Ledger.leaves_own c.serve_arrival.new.server.ledger chain left
     told c.in_default-serve_arrival.ensures.live stood now)) nobody
-    (one_further (all_ghosts (ghosts g.G.Ledger g.A.Archive) g.K.Link) first c.args.options.node c.loop-turn._turn
+    (one_further (all_ghosts (ghosts g.G.Ledger g.A.Archive) g.Y.Relay g.K.Link) first c.args.options.node c.loop-turn._turn
     (with_bytes c.in-Ok.arrival c.next.new.buf) _
-    (snapshot c.loop-turn.server c.loop-turn.archive c.loop-turn.link) c.next.new.self _
+    (snapshot c.loop-turn.server c.loop-turn.archive c.loop-turn.relay c.loop-turn.link) c.next.new.self _
     going c.in-Ok.ensures.took c.in-Ok.ensures.cause.uncounted
     (rw c.serve_arrival.ensures.same_calls c.next.ensures.called) (rw is at done))
     (sym (c.ends.ensures c.next.new.buf) ∙ c.if-ends.true) c.loop-turn-test.true
@@ -128,11 +128,11 @@ loop-turn-preserved g c = record {
       is going.ready.are_open (λ t p lt. g.met.K.Link.greater_is_new c.loop-turn.link p t lt)
       c.in-Ok.ensures.lawful c.in-Ok.ensures.took in
       let done = c.in_default-serve_arrival.ensures.served going.world going.stood going.told going.ready.grown are in
-      going_more (all_ghosts (ghosts g.G.Ledger g.A.Archive) g.K.Link) first c.args.options.node c.loop-turn._turn
+      going_more (all_ghosts (ghosts g.G.Ledger g.A.Archive) g.Y.Relay g.K.Link) first c.args.options.node c.loop-turn._turn
       (with_bytes c.in-Ok.arrival c.next.new.buf) _ _
-      (one_further (all_ghosts (ghosts g.G.Ledger g.A.Archive) g.K.Link) first c.args.options.node c.loop-turn._turn
+      (one_further (all_ghosts (ghosts g.G.Ledger g.A.Archive) g.Y.Relay g.K.Link) first c.args.options.node c.loop-turn._turn
       (with_bytes c.in-Ok.arrival c.next.new.buf) _
-      (snapshot c.loop-turn.server c.loop-turn.archive c.loop-turn.link) c.next.new.self _
+      (snapshot c.loop-turn.server c.loop-turn.archive c.loop-turn.relay c.loop-turn.link) c.next.new.self _
       going c.in-Ok.ensures.took c.in-Ok.ensures.cause.uncounted
       (rw c.serve_arrival.ensures.same_calls c.next.ensures.called) (rw is at done))
       (sym (c.ends.ensures c.next.new.buf) ∙ c.if-ends.false);
@@ -145,7 +145,7 @@ loop-turn-preserved g c = record {
       (rw c.serve_arrival.ensures.same_calls c.next.ensures.called)
       (each_more _ _ (let a = c.in-Ok.ensures.cause.uncounted in
       let b = c.serve_arrival.ensures.link_counts.more in omega arith)
-      c.serve_arrival.ensures.archive_more c.serve_arrival.ensures.disk_counts.more (omega arith));
+      c.serve_arrival.ensures.archive_more c.serve_arrival.ensures.disk_counts.more c.serve_arrival.ensures.relay_more);
   keeps = λ t. all_grow_more _ _ _ (c.loop-turn.invariant.keeps t) (c.serve_arrival.ensures.keeps t);
   beside = λ told. c.serve_arrival.ensures.beside told ∙ c.loop-turn.invariant.beside told;
 }
@@ -161,7 +161,7 @@ returns-in-Err-clause-causes g c =
     c.loop-turn.invariant.counted c.loop-turn-test.true
     (rw c.serve_arrival.ensures.same_calls c.next.ensures.called) c.in-Err.is
     (rw c.in-Ok.ensures.cause.uncounted at c.serve_arrival.ensures.link_counts)
-    c.serve_arrival.ensures.archive_more c.serve_arrival.ensures.disk_counts (omega arith))
+    c.serve_arrival.ensures.archive_more c.serve_arrival.ensures.disk_counts c.serve_arrival.ensures.relay_more)
 
 pub returns-then-ends-clause-causes : goal.returns-then-ends-clause-causes
 returns-then-ends-clause-causes g c =
@@ -170,7 +170,7 @@ returns-then-ends-clause-causes g c =
     (rw c.serve_arrival.ensures.same_calls c.next.ensures.called)
     (each_more _ _ (let a = c.in-Ok.ensures.cause.uncounted in
     let b = c.serve_arrival.ensures.link_counts.more in omega arith)
-    c.serve_arrival.ensures.archive_more c.serve_arrival.ensures.disk_counts.more (omega arith))) (omega arith)
+    c.serve_arrival.ensures.archive_more c.serve_arrival.ensures.disk_counts.more c.serve_arrival.ensures.relay_more)) (omega arith)
     refl (λ e. absurd cc)
 
 pub returns-clause-causes : goal.returns-clause-causes

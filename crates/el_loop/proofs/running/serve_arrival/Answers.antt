@@ -14,8 +14,8 @@ returns-in-Ok-clause-served g c = λ world stood told grown are.
       are_open = λ tells. are tells t.next c.take.new.self t.after;
       grown = λ tells. rw same (grown tells);
     }) in
-    on_ok_weaker c.work_off.result (λ f. arrival_done (all_ghosts (ghosts g.G.Ledger g.A.Archive) g.K.Link) _ world c.args.server.now
-    c.take.new.self _ _ _ still told c.in-Ok.ensures.ledger t f)
+    on_ok_weaker c.work_off.result (λ f. arrival_done (all_ghosts (ghosts g.G.Ledger g.A.Archive) g.Y.Relay g.K.Link) _ world c.args.server.now
+    c.take.new.self _ _ _ _ still told c.in-Ok.ensures.ledger t f)
     done
 
 pub returns-in-Ok-clause-stopped : goal.returns-in-Ok-clause-stopped
@@ -27,13 +27,13 @@ returns-in-Ok-clause-stopped g c = λ world stood told grown are.
       are_open = λ tells. are tells t.next c.take.new.self t.after;
       grown = λ tells. rw same (grown tells);
     }) in
-    if_err _ _ c.work_off.result (λ e f. arrival_stopped (all_ghosts (ghosts g.G.Ledger g.A.Archive) g.K.Link) _ _ world
-    c.args.server.now c.take.new.self _ _ _ _ still told c.in-Ok.ensures.ledger t f)
+    if_err _ _ c.work_off.result (λ e f. arrival_stopped (all_ghosts (ghosts g.G.Ledger g.A.Archive) g.Y.Relay g.K.Link) _ _ world
+    c.args.server.now c.take.new.self _ _ _ _ _ still told c.in-Ok.ensures.ledger t f)
     stopped
 
 pub returns-in-Err-clause-stopped : goal.returns-in-Err-clause-stopped
 returns-in-Err-clause-stopped g c = λ world stood told grown are.
-    rw c.in-Err.ensures.refused (arrival_lost (all_ghosts (ghosts g.G.Ledger g.A.Archive) g.K.Link) _ _ world _
+    rw c.in-Err.ensures.refused (arrival_lost (all_ghosts (ghosts g.G.Ledger g.A.Archive) g.Y.Relay g.K.Link) _ _ world _
     c.in-Err.ensures.memory grown
     (λ sure tells left now. inl (g.met.G.Ledger.leaves_own c.args.server.now.ledger world.side.chain left tells
     c.requires.live

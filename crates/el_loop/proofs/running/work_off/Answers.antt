@@ -9,7 +9,7 @@ use Rattle.el_loop.proofs.running.work_off.Goals as goal
 
 pub loop-outs-init : goal.loop-outs-init
 loop-outs-init g c = record {
-  progress = λ world all stood ready. begins (all_ghosts (ghosts g.G.Ledger g.A.Archive) g.K.Link) world all _ stood ready;
+  progress = λ world all stood ready. begins (all_ghosts (ghosts g.G.Ledger g.A.Archive) g.Y.Relay g.K.Link) world all _ stood ready;
   live = c.requires.live;
   keeps = λ t. all_grow_none _;
   numbers = λ n up. up;
@@ -17,6 +17,7 @@ loop-outs-init g c = record {
   same_last = refl;
   link_more = omega arith;
   archive_more = omega arith;
+  relay_more = omega arith;
   disk_more = omega arith;
   beside = λ told. refl;
 }
@@ -27,13 +28,13 @@ loop-outs-preserved g c = record {
       let p = c.loop-outs.invariant.progress world all stood ready in
       let t = rw c.in-Ok-Some.field-0-is at (c.in-Ok-Some.ensures.step p.world p.left p.stood p.ready.grown)
       in
-      progress_more (all_ghosts (ghosts g.G.Ledger g.A.Archive) g.K.Link) world all _ c.loop-outs.server c.turn.new.self
-      c.deliver.new.server c.loop-outs.archive c.turn.new.archive c.loop-outs.link c.deliver.new.link
+      progress_more (all_ghosts (ghosts g.G.Ledger g.A.Archive) g.Y.Relay g.K.Link) world all _ c.loop-outs.server c.turn.new.self
+      c.deliver.new.server c.loop-outs.archive c.turn.new.archive c.loop-outs.relay c.turn.new.relay c.loop-outs.link c.deliver.new.link
       (outs_of c.in-Ok-Some.outs) p t
       (c.in-Ok.ensures.delivered t.next t.rest
-      (can_deliver (all_ghosts (ghosts g.G.Ledger g.A.Archive) g.K.Link) p.world p.left (outs_of c.in-Ok-Some.outs)
+      (can_deliver (all_ghosts (ghosts g.G.Ledger g.A.Archive) g.Y.Relay g.K.Link) p.world p.left (outs_of c.in-Ok-Some.outs)
       c.loop-outs.server
-      c.turn.new.self _ _ _ p.stood t p.ready.are_open));
+      c.turn.new.self _ _ _ _ _ p.stood t p.ready.are_open));
   live = rw c.in-Ok.ensures.same_ledger c.in-Ok-Some.ensures.live;
   keeps = λ t. all_grow_more _ _ _ (c.loop-outs.invariant.keeps t) (c.in-Ok-Some.ensures.keeps t);
   numbers = λ n up.
@@ -42,6 +43,8 @@ loop-outs-preserved g c = record {
   same_last = c.in-Ok.ensures.same_last ∙ c.loop-outs.invariant.same_last;
   link_more = let a = c.loop-outs.invariant.link_more in let b = c.in-Ok.ensures.counts.more in omega arith;
   archive_more = let a = c.loop-outs.invariant.archive_more in let b = c.in-Ok-Some.ensures.archive_more in
+      omega arith;
+  relay_more = let a = c.loop-outs.invariant.relay_more in let b = c.in-Ok-Some.ensures.relay_more in
       omega arith;
   disk_more = let a = c.loop-outs.invariant.disk_more in let b = c.in-Ok-Some.ensures.disk_more in
       rw c.in-Ok.ensures.same_ledger (omega arith);
@@ -53,12 +56,12 @@ pub returns-in-Err-deliver-clause-stopped : goal.returns-in-Err-deliver-clause-s
 returns-in-Err-deliver-clause-stopped g c = λ world all stood ready.
     let p = c.loop-outs.invariant.progress world all stood ready in
     let t = rw c.in-Ok-Some.field-0-is at (c.in-Ok-Some.ensures.step p.world p.left p.stood p.ready.grown) in
-    stopped_sending (all_ghosts (ghosts g.G.Ledger g.A.Archive) g.K.Link) _ world all _ c.loop-outs.server c.turn.new.self
-    c.deliver.new.server c.loop-outs.archive c.turn.new.archive c.loop-outs.link c.deliver.new.link
+    stopped_sending (all_ghosts (ghosts g.G.Ledger g.A.Archive) g.Y.Relay g.K.Link) _ world all _ c.loop-outs.server c.turn.new.self
+    c.deliver.new.server c.loop-outs.archive c.turn.new.archive c.loop-outs.relay c.turn.new.relay c.loop-outs.link c.deliver.new.link
     (outs_of c.in-Ok-Some.outs) _ p t
     (c.in-Err-deliver.ensures.undelivered t.next t.rest
-    (can_deliver (all_ghosts (ghosts g.G.Ledger g.A.Archive) g.K.Link) p.world p.left (outs_of c.in-Ok-Some.outs) c.loop-outs.server
-    c.turn.new.self _ _ _ p.stood t p.ready.are_open))
+    (can_deliver (all_ghosts (ghosts g.G.Ledger g.A.Archive) g.Y.Relay g.K.Link) p.world p.left (outs_of c.in-Ok-Some.outs) c.loop-outs.server
+    c.turn.new.self _ _ _ _ _ p.stood t p.ready.are_open))
     (λ sure told left now. inr (g.met.G.Ledger.leaves_own c.turn.new.self.ledger t.next.side.chain left told
     c.in-Ok-Some.ensures.live (t.stood.chain sure) (rw c.in-Err-deliver.ensures.same_ledger at now)))
 
@@ -69,9 +72,9 @@ returns-in-Err-deliver-clause-keeps g c =
 pub returns-in-Ok-None-clause-finished : goal.returns-in-Ok-None-clause-finished
 returns-in-Ok-None-clause-finished g c = λ world all stood ready.
     let p = c.loop-outs.invariant.progress world all stood ready in
-    finished (all_ghosts (ghosts g.G.Ledger g.A.Archive) g.K.Link) world all _ c.loop-outs.server c.turn.new.self
+    finished (all_ghosts (ghosts g.G.Ledger g.A.Archive) g.Y.Relay g.K.Link) world all _ c.loop-outs.server c.turn.new.self
     c.loop-outs.archive
-    c.turn.new.archive c.loop-outs.link p
+    c.turn.new.archive c.loop-outs.relay c.turn.new.relay c.loop-outs.link p
     (rw c.in-Ok-None.field-0-is at (c.in-Ok-None.ensures.done p.world p.left p.stood))
     (rw c.in-Ok-None.field-0-is at c.in-Ok-None.ensures.idle).surplus
     (rw c.in-Ok-None.field-0-is at c.in-Ok-None.ensures.unchanged)
@@ -89,8 +92,8 @@ pub returns-in-Err-clause-stopped : goal.returns-in-Err-clause-stopped
 returns-in-Err-clause-stopped g c = λ world all stood ready.
     let p = c.loop-outs.invariant.progress world all stood ready in
     let t = c.in-Err.ensures.failed p.world p.left p.stood p.ready.grown in
-    stopped_turn (all_ghosts (ghosts g.G.Ledger g.A.Archive) g.K.Link) _ world all _ c.loop-outs.server c.turn.new.self
-    c.loop-outs.archive c.turn.new.archive c.loop-outs.link _ c.in-Err.fault p t
+    stopped_turn (all_ghosts (ghosts g.G.Ledger g.A.Archive) g.Y.Relay g.K.Link) _ world all _ c.loop-outs.server c.turn.new.self
+    c.loop-outs.archive c.turn.new.archive c.loop-outs.relay c.turn.new.relay c.loop-outs.link _ c.in-Err.fault p t c.in-Err.ensures.unasked
     (λ sure told left now. let over = (t.stops_at sure).crash told in over.each left (g.met.G.Ledger.earlier
     c.turn.new.self.ledger _ _ left over.later now))
     c.in-Err.ensures.keeps c.halt_of.ensures

@@ -1,30 +1,29 @@
 use Rattle.std.proofs.Common.{inl, refl, ap, ◌∙◌}
 use Rattle.el_replies.specs.Batches.{with_reply}
-use Rattle.el_replies.proofs.Losing.{so, unlost, none_lost, with_losses, result_unlost, done_sure, failed}
+use Rattle.el_replies.specs.Losses.{AnswersOf}
+use Rattle.el_replies.proofs.Losing.{so, none_lost, cut_result, done_sure, failed}
 use Rattle.el_replies.proofs.Reading.{none_within}
 use Rattle.el_replies.proofs.batch.answer_in_time.Goals as goal
 
 pub returns-clause-answered : goal.returns-clause-answered
 returns-clause-answered g c = λ side settled.
-    let told = with_losses g.A.Archive.tells side c.args.request c.args.session.now
-    c.answer_request.new.session _ _ _ _ c.in_ok-told.told
-    (c.in_ok-told.ensures.answered side settled) in
+    let answers = AnswersOf g.A.Archive.tells side in
     so _ _ (λ x y h. done_sure c.add_reply.result _ _ _ _ (λ is. (
       c.in_ok-told.told,
       h,
       is ∙ ap (with_reply c.args.request.id c.in_ok-told.told) c.make_room.ensures.same,
     ))
-    (result_unlost g.A.Archive.tells side x y c.args.request c.args.session.now
-    c.answer_request.new.session c.in_ok-told.told h) c.add_reply.ensures.added c.add_reply.ensures.sure) told
+    (cut_result answers c.args.request x y c.args.session.now c.answer_request.new.session c.in_ok-told.told h)
+    c.add_reply.ensures.added c.add_reply.ensures.sure) (c.in_ok-told.ensures.answered side settled)
 
 pub returns-in_err-told-clause-answered : goal.returns-in_err-told-clause-answered
 returns-in_err-told-clause-answered g c = λ side settled.
-    unlost _ _ _ _ _ c.in_err-told.ensures.unlost.0 c.in_err-told.ensures.unlost.1
-    (λ before. failed c.from_residual-in_err-told.result _ _ _ c.from_residual-in_err-told.ensures.1 refl)
+    so _ _ (λ x y h. failed c.from_residual-in_err-told.result _ _ _ c.from_residual-in_err-told.ensures.1 h)
+    (c.in_err-told.ensures.answered side settled)
 
 pub returns-in_err-room-clause-answered : goal.returns-in_err-room-clause-answered
 returns-in_err-room-clause-answered g c = λ side settled.
-    none_lost _ _ _ (λ before. failed c.from_residual.result _ _ _ c.from_residual.ensures.1 refl)
+    none_lost _ _ _ (λ before. failed c.from_residual.result _ _ _ c.from_residual.ensures.1 (inl refl))
 
 pub returns-in_err-room-clause-rows : goal.returns-in_err-room-clause-rows
 returns-in_err-room-clause-rows g c = λ chain stood kept. none_within _ _ (inl refl)

@@ -2,8 +2,8 @@ use Rattle.std.proofs.Common.{◌≡◌, refl, nat_lt, true, false, arith, sym, 
 use Rattle.std.specs.Prelude.{MatchResult}
 use Rattle.std.proofs.lemmas.Bool.Decides.{nat_tests}
 use Rattle.el_json.specs.declared.request.Item.{Item}
-use Rattle.el_replies.proofs.Losing.{so, none_lost, step_late, in_time, done_or}
-use Rattle.el_replies.specs.Batches.{Step}
+use Rattle.el_replies.proofs.Losing.{so, none_lost, step_late, cut_late, in_time, done_or}
+use Rattle.el_replies.specs.Batches.{Step, CutStep}
 use Rattle.el_replies.specs.Losses.{AnswersOf}
 use Rattle.el_replies.specs.within.Gathered.{replies_of}
 use Rattle.el_replies.specs.declared.batch.TheConstants.{BATCH_LIMIT}
@@ -20,10 +20,11 @@ returns-then-replies-gt-BATCH_LIMIT-clause-answered g c = λ side settled.
     let is = replies_of c.refuse.new.replies in
     none_lost _ _ _ (λ before.
     let P : Item → Type 0 = λ i. MatchResult c.refuse.result
-    (λ z. Step answers i before c.args.session.now was before c.args.session.now is) (λ e. before ≡ before) in
+    (λ z. Step answers i before c.args.session.now was before c.args.session.now is)
+    (λ e. CutStep answers i before c.args.session.now was before) in
     subst P (sym c.in-Good.is) (done_or c.refuse.result _ _ _
     (λ added. step_late answers c.in-Good.request before c.args.session.now c.args.session.now was is late refl
-    added) refl c.refuse.ensures.added))
+    added) (cut_late answers c.in-Good.request before c.args.session.now was late) c.refuse.ensures.added))
 
 pub returns-else-replies-gt-BATCH_LIMIT-clause-answered :
     goal.returns-else-replies-gt-BATCH_LIMIT-clause-answered
@@ -35,7 +36,8 @@ returns-else-replies-gt-BATCH_LIMIT-clause-answered g c = λ side settled.
     let is = replies_of c.answer_in_time.new.replies in
     so _ _ (λ x y h.
     let P : Item → Type 0 = λ i. MatchResult c.answer_in_time.result
-    (λ z. Step answers i x c.args.session.now was y c.answer_in_time.new.session is) (λ e. y ≡ x) in
+    (λ z. Step answers i x c.args.session.now was y c.answer_in_time.new.session is)
+    (λ e. CutStep answers i x c.args.session.now was y) in
     subst P (sym c.in-Good.is) (in_time answers c.answer_in_time.result c.in-Good.request x y
     c.args.session.now c.answer_in_time.new.session was is early h))
     (c.answer_in_time.ensures.answered side settled)
@@ -47,7 +49,8 @@ returns-in-Invalid-clause-answered g c = λ side settled.
     let is = replies_of c.refuse-in-Invalid.new.replies in
     none_lost _ _ _ (λ before.
     let P : Item → Type 0 = λ i. MatchResult c.refuse-in-Invalid.result
-    (λ z. Step answers i before c.args.session.now was before c.args.session.now is) (λ e. before ≡ before) in
+    (λ z. Step answers i before c.args.session.now was before c.args.session.now is)
+    (λ e. CutStep answers i before c.args.session.now was before) in
     subst P (sym c.in-Invalid.is) (done_or c.refuse-in-Invalid.result _ _ _ (λ added. (refl, refl, added)) refl
     c.refuse-in-Invalid.ensures.added))
 

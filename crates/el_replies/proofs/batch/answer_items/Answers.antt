@@ -24,6 +24,7 @@ loop-item-init g c =
       rows = λ chain stood kept. rows.begins chain _ c.args.elements.now _;
       caches = λ chain stood kept. kept;
       archive_more = omega arith;
+      relay_more = omega arith;
       so_far = λ side settled.
           let answers = AnswersOf g.A.Archive.tells side in
           none_lost _ _ _ (λ before. (
@@ -52,6 +53,7 @@ loop-item-preserved g c =
       caches = λ chain stood kept.
           c.answer_item.ensures.caches chain (c.loop-item.invariant.quiet.stays.still_stands chain stood) (c.loop-item.invariant.caches chain stood kept);
       archive_more = omega (arith, c.loop-item.invariant.archive_more, c.answer_item.ensures.archive_more);
+      relay_more = omega (arith, c.loop-item.invariant.relay_more, c.answer_item.ensures.relay_more);
       so_far = λ side settled.
           let answers = AnswersOf g.A.Archive.tells side in
           let still = settled_on (ghosts g.G.Ledger g.A.Archive) _ (beneath c.loop-item.ledger c.loop-item.archive)

@@ -1,9 +1,9 @@
-use Rattle.std.proofs.Common.{◌≡◌, Ok}
+use Rattle.std.proofs.Common.{◌≡◌, Ok, inl, refl}
 use Rattle.el_json.specs.Lines.{line_says}
 use Rattle.el_json.specs.declared.request.Envelope.TheVariants.{One, Batch}
 use Rattle.el_replies.specs.Losses.{AnswersOf}
-use Rattle.el_replies.proofs.LineEnds.{of_said}
-use Rattle.el_replies.proofs.Losing.{so}
+use Rattle.el_replies.proofs.LineEnds.{of_said, no_json, no_request}
+use Rattle.el_replies.proofs.Losing.{so, none_lost}
 use Rattle.el_replies.proofs.Reading.{of_line, no_line}
 use Rattle.el_replies.proofs.line.reply_line.Goals as goal
 
@@ -49,3 +49,16 @@ returns-in-Err-Invalid-clause-rows g c = λ chain stood kept. no_line chain _ (l
 
 pub returns-in-Err-Memory-clause-rows : goal.returns-in-Err-Memory-clause-rows
 returns-in-Err-Memory-clause-rows g c = λ chain stood kept. no_line chain _ (line_says c.args.line.now) _
+
+pub returns-in-Err-Parse-clause-answered : goal.returns-in-Err-Parse-clause-answered
+returns-in-Err-Parse-clause-answered g c = λ side settled.
+    none_lost _ _ _ (λ before. no_json (AnswersOf g.A.Archive.tells side) c.args.line.now before c.args.session.now c.fault_reply.result
+    (rw c.in-Err-Parse.field-0-is at c.in-Err-Parse.ensures.says) (rw c.null.ensures at c.fault_reply.ensures))
+
+pub returns-in-Err-Invalid-clause-answered : goal.returns-in-Err-Invalid-clause-answered
+returns-in-Err-Invalid-clause-answered g c = λ side settled.
+    none_lost _ _ _ (λ before. no_request (AnswersOf g.A.Archive.tells side) c.args.line.now c.in-Err-Invalid.id before c.args.session.now
+    c.fault_reply-in-Err-Invalid.result (rw c.in-Err-Invalid.field-0-is at c.in-Err-Invalid.ensures.says) c.fault_reply-in-Err-Invalid.ensures)
+
+pub returns-in-Err-Memory-clause-answered : goal.returns-in-Err-Memory-clause-answered
+returns-in-Err-Memory-clause-answered g c = λ side settled. none_lost _ _ _ (λ before. inl refl)

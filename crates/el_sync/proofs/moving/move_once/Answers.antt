@@ -12,12 +12,13 @@ returns-clause-moving g c = λ side start at still.
     let s = c.in_ok-changed.ensures in
     by_sure side _
     (λ sure. settled _ _ _ c.make_move.new.ledger side start c.args.back c.args.rest
-    c.args.holdings.now c.settle.new.pool c.args.caches.now c.take_back.new.self c.settle.new.caches c.in_ok-answer.field-0 c.in_ok-changed.changed c.args.later c.ends_line-ends.result (λ a d f h i j k. g.met.G.Ledger.leaves_own a d f h i j k) e.keeps.live sure at still
-    (e.tried side (at.stood sure) at.told) e.keeps c.ends_line-ends.ensures (λ first chain stood stands ended. s.sifted first chain side.kept stood stands ended) s.same s.limits s.asked s.disk_rose.uncounted
+    c.args.holdings.now c.settle.new.pool c.settle.new.fees c.args.caches.now c.take_back.new.self c.settle.new.caches c.in_ok-answer.field-0 c.in_ok-changed.changed c.args.later c.ends_line-ends.result (λ a d f h i j k. g.met.G.Ledger.leaves_own a d f h i j k) e.keeps.live sure at still
+    (e.tried side (at.stood sure) at.told) e.keeps c.ends_line-ends.ensures (λ first chain stood stands ended. s.sifted first chain side.kept stood stands ended)
+    (λ first chain stood stands of_fees. s.fees first chain side.kept stood stands of_fees) s.same s.limits s.asked s.disk_rose.uncounted
     (rw c.taken.ensures at (c.take_back.ensures start side.chain (c.height-top.ensures ∙ g.met.G.Ledger.height_is c.args.ledger.now side.chain (at.stood sure)) (at.set.computed sure)))
     (λ first chain stand stands ended. s.followed first chain stand stands ended) s.kept)
     (λ un. unsure_settled _ _ _ c.make_move.new.ledger side start c.args.back c.args.rest
-    c.args.holdings.now c.settle.new.pool c.args.caches.now c.settle.new.caches c.in_ok-answer.field-0 c.in_ok-changed.changed un at e.keeps s.limits s.disk_rose.uncounted)
+    c.args.holdings.now c.settle.new.pool c.settle.new.fees c.args.caches.now c.settle.new.caches c.in_ok-answer.field-0 c.in_ok-changed.changed un at e.keeps s.limits s.disk_rose.uncounted)
 
 pub returns-in_err-answer-clause-stopped : goal.returns-in_err-answer-clause-stopped
 returns-in_err-answer-clause-stopped g c = λ chain stands.

@@ -51,6 +51,7 @@ returns-in_ok-told-in-Ok-Tx-clause-node g c = λ side start at from.
     by_sure side _
     (λ sure. kept_leads _ side start c.args.holdings.now _ _ _ _ sure at from.still
     (said_after c.order_tx.new.pool side _ _ c.args.text.now (said.tx c.in-Ok-Tx.bytes) _ reads (rw c.as_slice.ensures at (e.adds side (at.stood sure) (stands_there c.args.holdings.now c.args.caches.now side start sure at.set from.still) at.set.limits)))
+    (e.fees side.chain side.kept (at.stood sure) (stands_there c.args.holdings.now c.args.caches.now side start sure at.set from.still) (at.set.fees sure))
     c.pool_step.ensures.answer (sym from.found) c.pool_step.ensures.left c.pool_step.ensures.changed e.limits refl
     (asked_moved g.G.Ledger c.args.ledger.now c.order_tx.new.ledger side.chain (λ a d f h i j k. g.met.G.Ledger.leaves_own a d f h i j k) c.requires.live e.asked (at.stood sure)) e.disk_rose.uncounted)
     (λ un. unsure_leads _ side start c.args.holdings.now (OrdersLine g.A.Archive side (line c.args.text.now)) _ un at from.still
@@ -64,6 +65,7 @@ returns-in_ok-told-in-Ok-Drop-clause-node g c = λ side start at from.
     by_sure side _
     (λ sure. kept_leads _ side start c.args.holdings.now _ _ _ _ sure at from.still
     (said_after c.order_drop.new.pool side _ _ c.args.text.now (said.dropped c.in-Ok-Drop.id.0) _ reads (e.drops side (stands_there c.args.holdings.now c.args.caches.now side start sure at.set from.still)))
+    (e.fees side.chain side.kept (stands_there c.args.holdings.now c.args.caches.now side start sure at.set from.still) (at.set.fees sure))
     c.pool_step-in-Ok-Drop.ensures.answer (sym from.found) c.pool_step-in-Ok-Drop.ensures.left c.pool_step-in-Ok-Drop.ensures.changed e.limits refl
     (asked_moved g.G.Ledger c.args.ledger.now c.args.ledger.now side.chain (λ a d f h i j k. g.met.G.Ledger.leaves_own a d f h i j k) c.requires.live (asked_none g.G.Ledger c.args.ledger.now) (at.stood sure)) refl)
     (λ un. unsure_leads _ side start c.args.holdings.now (OrdersLine g.A.Archive side (line c.args.text.now)) _ un at from.still

@@ -12,11 +12,17 @@ use Rattle.el_core.specs.State.{State, AreUpTo, waiting}
 use Rattle.el_core.proofs.Noded.{ahead_failed}
 use Rattle.el_core.proofs.Measured.{ahead_less, line_less, peers_less, peers_idle}
 use Rattle.el_core.proofs.Turned.{ahead_turned, node_turned, peers_turned, peers_any, peers_ended, node_failed, unread_failed}
+use Rattle.el_json.specs.Lines.{line_says}
+use Rattle.el_replies.specs.RowBounds.{LineReads}
+use Rattle.el_core.specs.within.RowBounds.{SpeakerReads}
+use Rattle.el_chain.specs.Chains.{Chain}
+use Rattle.el_side.specs.Caching.{CachesStand}
+use Rattle.el_core.proofs.LineRows.{turn_reads, within_more}
 
 pub returns-in-Ok-clause-step : goal.returns-in-Ok-clause-step
 returns-in-Ok-clause-step g c = λ world left stood told.
     let e = c.in-Ok.ensures in
-    ahead_turned (ghosts g.G.Ledger g.A.Archive) c.args.self.now c.turn_ahead.new.self c.args.archive.now c.turn_ahead.new.archive world left c.in-Ok.outs stood told e.some e.same e.magic e.moving
+    ahead_turned (ghosts g.G.Ledger g.A.Archive) g.Y.Relay c.args.relay.now c.args.self.now c.turn_ahead.new.self c.args.archive.now c.turn_ahead.new.archive world left c.in-Ok.outs stood told e.some e.same e.magic e.moving
 
 pub returns-in-Ok-clause-less : goal.returns-in-Ok-clause-less
 returns-in-Ok-clause-less g c = ahead_less c.args.self.now c.turn_ahead.new.self c.in-Ok.ensures.fewer c.in-Ok.ensures.same c.in-Ok.ensures.tree
@@ -43,7 +49,7 @@ returns-in-Ok-None-clause-step g c = λ world left stood told.
     let q = rw unchanged at c.turn_peers.ensures.quiet in
     let s = rw unchanged at c.turn_peers.ensures.same in
     let k = rw unchanged at c.turn_peers.ensures.caches in
-    peers_turned (ghosts g.G.Ledger g.A.Archive) c.args.self.now c.turn_peers.new.self c.args.archive.now c.turn_peers.new.archive world left c.turn_peers.result (λ m n d t h i j. g.met.G.Ledger.leaves_own m n d t h i j) c.requires.live
+    peers_turned (ghosts g.G.Ledger g.A.Archive) g.Y.Relay c.args.relay.now c.turn_peers.new.relay c.args.self.now c.turn_peers.new.self c.args.archive.now c.turn_peers.new.archive world left c.turn_peers.result (λ m n d t h i j. g.met.G.Ledger.leaves_own m n d t h i j) c.requires.live
     stood told c.turn_peers.ensures.keeps (nil_if c.args.self.now.ahead c.is_empty.result c.if-not-is_empty.false (c.is_empty.ensures ∙ ap (λ (s : State g.row.G.Denot). length s.ahead == 0) c.self.view_is)) (ap (λ (s : State g.row.G.Denot). waiting s.clients) (sym c.self.view_is) ∙ c.in_default.ensures.place) all s q k p
 
 pub returns-in-Ok-None-clause-done : goal.returns-in-Ok-None-clause-done
@@ -54,7 +60,7 @@ returns-in-Ok-None-clause-done g c = λ world left stood.
     let q = rw unchanged at c.turn_peers.ensures.quiet in
     let s = rw unchanged at c.turn_peers.ensures.same in
     let k = rw unchanged at c.turn_peers.ensures.caches in
-    peers_ended (ghosts g.G.Ledger g.A.Archive) c.args.self.now c.turn_peers.new.self c.args.archive.now c.turn_peers.new.archive world left c.turn_peers.result (λ m n d t h i j. g.met.G.Ledger.leaves_own m n d t h i j) c.requires.live
+    peers_ended (ghosts g.G.Ledger g.A.Archive) g.Y.Relay c.args.relay.now c.turn_peers.new.relay c.args.self.now c.turn_peers.new.self c.args.archive.now c.turn_peers.new.archive world left c.turn_peers.result (λ m n d t h i j. g.met.G.Ledger.leaves_own m n d t h i j) c.requires.live
     stood (nil_if c.args.self.now.ahead c.is_empty.result c.if-not-is_empty.false (c.is_empty.ensures ∙ ap (λ (s : State g.row.G.Denot). length s.ahead == 0) c.self.view_is)) (ap (λ (s : State g.row.G.Denot). waiting s.clients) (sym c.self.view_is) ∙ c.in_default.ensures.place) all s q k p
 
 pub returns-in-Ok-None-clause-idle : goal.returns-in-Ok-None-clause-idle
@@ -66,7 +72,7 @@ returns-in-Ok-None-clause-idle g c =
 pub returns-in-Ok-turn_node-clause-step : goal.returns-in-Ok-turn_node-clause-step
 returns-in-Ok-turn_node-clause-step g c = λ world left stood told.
     let e = c.in-Ok-turn_node.ensures in
-    node_turned (ghosts g.G.Ledger g.A.Archive) c.args.self.now c.next_line.new.self c.turn_node.new.self c.args.archive.now c.turn_node.new.archive world left c.in-Ok-turn_node.outs
+    node_turned (ghosts g.G.Ledger g.A.Archive) g.Y.Relay c.args.relay.now c.args.self.now c.next_line.new.self c.turn_node.new.self c.args.archive.now c.turn_node.new.archive world left c.in-Ok-turn_node.outs
     (as_listed c.in-Ok-Some.met) (λ k chain h. g.met.G.Ledger.tip_is k chain h) stood told e.still e.told c.in-Ok-Some.ensures.same c.in-Ok-Some.ensures.limit (rw c.in-Ok-Some.field-0-is at c.in-Ok-Some.ensures.met) e.same e.magic e.begun e.node
 
 pub returns-in-Ok-turn_node-clause-less : goal.returns-in-Ok-turn_node-clause-less
@@ -124,14 +130,14 @@ returns-in-Ok-None-clause-memory g c = λ world left p stood.
     let turn = rw unchanged at c.turn_peers.ensures.peers in
     found_memory g.G.Ledger.stands c.args.self.now c.turn_peers.new.self world left _ _ _ c.turn_peers.result p stood
     (none_ordered c.args.self.now.node world.heard stood.ordered stood.node all)
-    (peers_any (ghosts g.G.Ledger g.A.Archive) c.args.self.now c.turn_peers.new.self c.args.archive.now c.turn_peers.new.archive world left c.turn_peers.result stood (nil_if c.args.self.now.ahead c.is_empty.result c.if-not-is_empty.false (c.is_empty.ensures ∙ ap (λ (s : State g.row.G.Denot). length s.ahead == 0) c.self.view_is)) turn)
+    (peers_any (ghosts g.G.Ledger g.A.Archive) g.Y.Relay c.args.relay.now c.turn_peers.new.relay c.args.self.now c.turn_peers.new.self c.args.archive.now c.turn_peers.new.archive world left c.turn_peers.result stood (nil_if c.args.self.now.ahead c.is_empty.result c.if-not-is_empty.false (c.is_empty.ensures ∙ ap (λ (s : State g.row.G.Denot). length s.ahead == 0) c.self.view_is)) turn)
 
 pub returns-in-Ok-None-clause-long : goal.returns-in-Ok-None-clause-long
 returns-in-Ok-None-clause-long g c = λ world p rest stood still told is kept.
     let unchanged = rw c.in-Ok-None.field-0-is at c.in-Ok-None.ensures.unchanged in
     let turn = rw unchanged at c.turn_peers.ensures.peers in
     let l = peers_long g.G.Ledger.stands c.args.self.now c.turn_peers.new.self world p rest _ _ _ c.turn_peers.result stood is kept
-    (peers_any (ghosts g.G.Ledger g.A.Archive) c.args.self.now c.turn_peers.new.self c.args.archive.now c.turn_peers.new.archive world _ c.turn_peers.result stood (nil_if c.args.self.now.ahead c.is_empty.result c.if-not-is_empty.false (c.is_empty.ensures ∙ ap (λ (s : State g.row.G.Denot). length s.ahead == 0) c.self.view_is)) turn) in
+    (peers_any (ghosts g.G.Ledger g.A.Archive) g.Y.Relay c.args.relay.now c.turn_peers.new.relay c.args.self.now c.turn_peers.new.self c.args.archive.now c.turn_peers.new.archive world _ c.turn_peers.result stood (nil_if c.args.self.now.ahead c.is_empty.result c.if-not-is_empty.false (c.is_empty.ensures ∙ ap (λ (s : State g.row.G.Denot). length s.ahead == 0) c.self.view_is)) turn) in
     (l.0, ap Ok l.1, l.2)
 
 pub returns-in-Ok-turn_node-clause-memory : goal.returns-in-Ok-turn_node-clause-memory
@@ -207,3 +213,40 @@ returns-in-Err-turn_node-clause-beside g c = λ told. c.in-Err-turn_node.ensures
 
 pub returns-in-Some-clause-beside : goal.returns-in-Some-clause-beside
 returns-in-Some-clause-beside g c = c.turn_tell.ensures.beside
+
+-- for a client's next line
+pub returns-in-Ok-clause-rows : goal.returns-in-Ok-clause-rows
+returns-in-Ok-clause-rows g c = λ world p bytes rest stood still told sure. absurd (c.in-Ok.ensures.some (stood.ahead ∙ still))
+
+pub returns-in-Err-clause-rows : goal.returns-in-Err-clause-rows
+returns-in-Err-clause-rows g c = λ world p bytes rest stood still told sure. absurd (c.in-Err.ensures.some (stood.ahead ∙ still))
+
+pub returns-in-Err-next_line-clause-rows : goal.returns-in-Err-next_line-clause-rows
+returns-in-Err-next_line-clause-rows g c = λ world p bytes rest stood still told sure.
+    let n = none_ordered_before g.G.Ledger.stands c.args.self.now world p _ rest stood in
+    absurd (none_unread c.args.self.now.node world.heard stood.ordered stood.node n.0 c.in-Err-next_line.ensures.line)
+
+pub returns-in-Ok-None-clause-rows : goal.returns-in-Ok-None-clause-rows
+returns-in-Ok-None-clause-rows g c = λ world p bytes rest stood still told sure.
+    let unchanged = rw c.in-Ok-None.field-0-is at c.in-Ok-None.ensures.unchanged in
+    let reads = rw unchanged at c.turn_peers.ensures.rows in
+    let chain = world.side.chain in
+    let buckets = g.G.Ledger.buckets c.args.self.now.ledger in
+    within_more (SpeakerReads chain buckets c.args.self.now.speaker c.args.self.now.clients) (LineReads chain buckets (line_says bytes)) _ _
+    (turn_reads g.G.Ledger.stands c.args.self.now world p bytes rest stood chain buckets) (reads chain (stood.chain sure)
+    (subst (λ (start : Chain). CachesStand c.args.self.now.caches start chain) (stood.set.still still) (stood.set.computed sure)))
+
+pub returns-in-Ok-turn_node-clause-rows : goal.returns-in-Ok-turn_node-clause-rows
+returns-in-Ok-turn_node-clause-rows g c = λ world p bytes rest stood still told sure.
+    let n = none_ordered_before g.G.Ledger.stands c.args.self.now world p _ rest stood in
+    absurd (none_given c.args.self.now.node c.next_line.new.self.node world.heard stood.ordered _ stood.node n.0 (rw c.in-Ok-Some.field-0-is at c.in-Ok-Some.ensures.met))
+
+pub returns-in-Err-turn_node-clause-rows : goal.returns-in-Err-turn_node-clause-rows
+returns-in-Err-turn_node-clause-rows g c = λ world p bytes rest stood still told sure.
+    let n = none_ordered_before g.G.Ledger.stands c.args.self.now world p _ rest stood in
+    absurd (none_given c.args.self.now.node c.next_line.new.self.node world.heard stood.ordered _ stood.node n.0 (rw c.in-Ok-Some.field-0-is at c.in-Ok-Some.ensures.met))
+
+pub returns-in-Some-clause-rows : goal.returns-in-Some-clause-rows
+returns-in-Some-clause-rows g c = λ world p bytes rest stood still told sure.
+    let first = subst (λ (s : State g.row.G.Denot). IsFirstWaiting s.clients (Some c.in-Some.i)) c.self.view_is c.in-Some.ensures.place in
+    absurd (tell_none g.G.Ledger.stands c.args.self.now world _ c.in-Some.i stood first told)

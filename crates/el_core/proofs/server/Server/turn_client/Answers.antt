@@ -1,16 +1,20 @@
 use Rattle.std.proofs.Common.{◌∙◌, sym, ap, refl, Option}
+use Rattle.el_replies.specs.Spending.{asked_ghosts}
 use Rattle.el_side.specs.Beneath.{ghosts}
 use Rattle.el_core.specs.State.{work_of_surplus}
 use Rattle.el_core.specs.within.Clients.{gone, speaker_after}
 use Rattle.el_core.specs.declared.out.Outs.{Outs}
-use Rattle.el_core.proofs.Losing.{lost_none}
+use Rattle.el_core.proofs.Losing.{idly}
 use Rattle.el_core.proofs.Measured.{steps_of, speaker_gone, speaker_stays, turned_less, turned_gone, turned_waits, turned_fewer, on_some}
 use Rattle.el_core.proofs.Numbers.{up_to_turned}
 use Rattle.el_core.proofs.server.Server.turn_client.Goals as goal
+use Rattle.std.proofs.Common.{inl, Some}
+use Rattle.el_core.specs.within.RowBounds.{ClientReads, SpeakerReads}
+use Rattle.el_core.proofs.LineRows.{none_within, spoken_reads, within_more}
 
 pub returns-in_default-place_of-clause-speaker_steps : goal.returns-in_default-place_of-clause-speaker_steps
 returns-in_default-place_of-clause-speaker_steps g c = λ side at'.
-    rw (← c.self.view_is) (gone c.in-Some.p c.in-Some.is c.in_default-place_of.ensures.place refl refl (lost_none (ghosts g.G.Ledger g.A.Archive) _ _ c.args.archive.now refl))
+    rw (← c.self.view_is) (gone c.in-Some.p c.in-Some.is c.in_default-place_of.ensures.place refl refl (idly (asked_ghosts (ghosts g.G.Ledger g.A.Archive) g.Y.Relay) _ _ c.args.archive.now c.args.relay.now _ _ refl refl))
 
 pub returns-then-not-stays-clause-speaker_steps : goal.returns-then-not-stays-clause-speaker_steps
 returns-then-not-stays-clause-speaker_steps g c = λ side at'.
@@ -69,3 +73,30 @@ returns-in-None-clause-waits g c = rw (← c.self.view_is) (turned_waits _ c.in-
 
 pub returns-in-None-clause-fewer : goal.returns-in-None-clause-fewer
 returns-in-None-clause-fewer g c = rw (← c.self.view_is) (turned_fewer _ c.in-Some-place_of.i _ _ c.turn-outs.result.0 c.turn-outs.result.1 c.turn-outs.ensures.turn)
+
+pub returns-in_default-clause-rows : goal.returns-in_default-clause-rows
+returns-in_default-clause-rows g c = λ chain stood cached. rw (← c.self.view_is) (none_within (SpeakerReads chain _ _ _) _ _ (inl refl) refl)
+
+pub returns-in_default-place_of-clause-rows : goal.returns-in_default-place_of-clause-rows
+returns-in_default-place_of-clause-rows g c = λ chain stood cached. rw (← c.self.view_is) (none_within (SpeakerReads chain _ _ _) _ _ (inl refl) refl)
+
+pub returns-then-not-stays-clause-rows : goal.returns-then-not-stays-clause-rows
+returns-then-not-stays-clause-rows g c =
+    let place = c.in-Some-place_of.ensures.place in
+    rw (← c.self.view_is) (λ chain stood cached. within_more (ClientReads chain _ place.0) (SpeakerReads chain _ _ _) _ _
+    (spoken_reads chain _ _ _ c.in-Some-place_of.i place.0 (c.in-Some.is ∙ ap Some (sym place.2)) place.1)
+    (c.turn-outs.ensures.rows chain place.0 stood cached place.1))
+
+pub returns-in-Some-outs-clause-rows : goal.returns-in-Some-outs-clause-rows
+returns-in-Some-outs-clause-rows g c =
+    let place = c.in-Some-place_of.ensures.place in
+    rw (← c.self.view_is) (λ chain stood cached. within_more (ClientReads chain _ place.0) (SpeakerReads chain _ _ _) _ _
+    (spoken_reads chain _ _ _ c.in-Some-place_of.i place.0 (c.in-Some.is ∙ ap Some (sym place.2)) place.1)
+    (c.turn-outs.ensures.rows chain place.0 stood cached place.1))
+
+pub returns-in-None-clause-rows : goal.returns-in-None-clause-rows
+returns-in-None-clause-rows g c =
+    let place = c.in-Some-place_of.ensures.place in
+    rw (← c.self.view_is) (λ chain stood cached. within_more (ClientReads chain _ place.0) (SpeakerReads chain _ _ _) _ _
+    (spoken_reads chain _ _ _ c.in-Some-place_of.i place.0 (c.in-Some.is ∙ ap Some (sym place.2)) place.1)
+    (c.turn-outs.ensures.rows chain place.0 stood cached place.1))

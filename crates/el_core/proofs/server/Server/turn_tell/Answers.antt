@@ -1,3 +1,4 @@
+use Rattle.el_replies.specs.Spending.{asked_ghosts}
 use Rattle.el_side.specs.Beneath.{ghosts}
 use Rattle.el_core.specs.Turn.{outs_of}
 use Rattle.el_core.proofs.Measured.{told_less}
@@ -11,7 +12,7 @@ use Rattle.el_core.proofs.server.Server.turn_tell.Goals as goal
 pub returns-clause-step : goal.returns-clause-step
 returns-clause-step g c =
     rw (← c.self.view_is) (λ world left stood grown.
-    tell_turned (ghosts g.G.Ledger g.A.Archive) _ _ c.args.archive.now world left (outs_of c.tell.result) c.args.i (λ m n d t h i j. g.met.G.Ledger.leaves_own m n d t h i j) (rw (← c.self.view_is) at c.requires.live) c.tell.ensures.quiet
+    tell_turned (asked_ghosts (ghosts g.G.Ledger g.A.Archive) g.Y.Relay) _ _ c.args.archive.now c.args.relay.now world left (outs_of c.tell.result) c.args.i (λ m n d t h i j. g.met.G.Ledger.leaves_own m n d t h i j) (rw (← c.self.view_is) at c.requires.live) c.tell.ensures.quiet
     stood grown (rw (← c.self.view_is) at c.requires.still) (rw (← c.self.view_is) at c.requires.first) refl c.tell.ensures.turn)
 
 pub returns-clause-less : goal.returns-clause-less
