@@ -90,6 +90,7 @@ kept_shows G magic bits now told counts cache image least most kept left = recor
   };
 }
 
+-- of a store that is live, each image that a crash now may leave stands for its tables
 pub live_shows : {D N : Type 0} {G : disk.Ghosts D} {H : network.Ghosts N} (store : Pages D N G H)
     (image : Image) → G.tells → IsLive store
     → G.left_since (disk_below store) (G.moment (disk_below store)) image
@@ -103,6 +104,7 @@ rows_long : (size : ℕ) (file : List ℕ) (count : ℕ) → length (rows_in siz
 unfolding rows_in
 rows_long size file count = length-map-range_with_len (row_at size file) 0 count
 
+-- a table of the store has as many rows as are counted
 pub lists_long : {D : Type 0} (G : disk.Ghosts D) (told : D) (counts : List ℕ) (t : Table)
     → length (lists_in G told counts t) ≡ count_at counts t
 lists_long G told counts t =

@@ -61,9 +61,9 @@ impl<D: Disk, N: NetworkMagic> Pages<D, N> {
     ghost use Rattle.el_pages.specs.Stores.{disk_below, rows_of, bits_of, IsLive};
     ghost use Rattle.el_redone.specs.Steps.{IsAtRest};
 
-    /// The store over a disk on which format 2 is live, and whose files are at rest and have tables with these
-    /// counts, in an index with 2^bits buckets. It takes a buffer of 65,536 bytes, through which its commits
-    /// write, and a cache with no pages; where there is no memory for them, the disk comes back.
+    /// The store over a disk on which format 2 is live, and whose files are at rest and have tables with
+    /// these counts, in an index with 2^bits buckets. It takes a buffer of 65,536 bytes, through which its
+    /// commits write, and a cache with no pages; where there is no memory for them, the disk comes back.
     pub fn new(alloc: Global, disk: D, bits: u32, counts: [u64; TABLES]) -> Result<Pages<D, N>, D>
         requires least { MIN_HEAD_BITS ≤ bits }
         requires most { bits ≤ MAX_HEAD_BITS }

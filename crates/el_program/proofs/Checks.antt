@@ -5,7 +5,8 @@ use Rattle.el_outside.specs.Counts.{RoseBy, CountsOnly}
 use Rattle.el_side.specs.Deeds as deed
 use Rattle.el_side.specs.Deeds.{Device, Deed, link, archive, disk, relay, faults, failures, Rose}
 use Rattle.el_outside.specs.Disk.{Image}
-use Rattle.el_outside.specs.Trace.{Trace, GoesOn}
+use Rattle.el_outside.specs.Trace.{GoesOn}
+use Rattle.el_loop.specs.Traffic.{Traffic}
 use Rattle.el_side.proofs.Deeds.{each_more, rose_still}
 use Rattle.el_program.proofs.Rises.{no_relay}
 use Rattle.el_outside.proofs.Traces.{goes_none}
@@ -20,7 +21,7 @@ use Rattle.el_words.specs.declared.words.Network.{Network}
 use Rattle.el_words.specs.declared.words.ServeWords.{ServeWords}
 use Rattle.el_words.proofs.OneCommand.{one_command}
 use Rattle.el_loop.specs.Counts.{counts, HasRisen}
-use Rattle.el_loop.specs.Runs.{WentBy, no_traffic}
+use Rattle.el_loop.specs.Traffic.{WentBy, no_traffic}
 use Rattle.el_model.specs.declared.fault.QueryFault.{QueryFault}
 use Rattle.el_model.specs.declared.fault.QueryFault.TheVariants as query
 use Rattle.el_program.specs.Checks.{SummaryEnds}
@@ -40,26 +41,26 @@ pub one_check : {words : List (List ℕ)} (a b : ℕ) → IsCheckOf words a → 
 one_check {words} a b is other = let same = one_command words (command.CheckChain a) (command.CheckChain b) is other in cc
 
 -- the counts of the devices rose, but for the relay's
-pub all_rose : (a a' b b' d d' : ℕ) (losses : List Deed) → RoseBy a a' (failures link losses)
-    → RoseBy b b' (failures archive losses) → RoseBy d d' (failures disk losses) → failures relay losses ≡ 0 → Rose (faults a b d 0) (faults a' b' d' 0) losses
-all_rose a a' b b' d d' losses of_link of_files of_disk of_relay link = of_link
-all_rose a a' b b' d d' losses of_link of_files of_disk of_relay archive = of_files
-all_rose a a' b b' d d' losses of_link of_files of_disk of_relay disk = of_disk
-all_rose a a' b b' d d' losses of_link of_files of_disk of_relay relay = rw of_relay (rose_still 0 0 refl)
+pub all_rose : (y a a' b b' d d' : ℕ) (losses : List Deed) → RoseBy a a' (failures link losses)
+    → RoseBy b b' (failures archive losses) → RoseBy d d' (failures disk losses) → failures relay losses ≡ 0 → Rose (faults a b d y) (faults a' b' d' y) losses
+all_rose y a a' b b' d d' losses of_link of_files of_disk of_relay link = of_link
+all_rose y a a' b b' d d' losses of_link of_files of_disk of_relay archive = of_files
+all_rose y a a' b b' d d' losses of_link of_files of_disk of_relay disk = of_disk
+all_rose y a a' b b' d d' losses of_link of_files of_disk of_relay relay = rw of_relay (rose_still y y refl)
 
 -- after a summary was there to be sent
-pub summary_sent : {K : Type 0} (of_link : links.Ghosts K) (old new : K) (is_line : List ℕ → Type 0) (text : List ℕ) (turns of_files low high : ℕ) (s : Status)
+pub summary_sent : {K : Type 0} (of_link : links.Ghosts K) (old new : K) (is_line : List ℕ → Type 0) (text : List ℕ) (y turns of_files low high : ℕ) (s : Status)
     → (s ≡ status.Ended) ⊎ ((s ≡ status.LinkFailed) ⊎ (s ≡ status.OutOfMemory))
     → (of_link.tells → s ≡ status.Ended → GoesOn (of_link.trace old) (of_link.trace new) [] (record { peer = 1; text = text } ∷ []) [])
     → (of_link.tells → s ≢ status.Ended → of_link.trace new ≡ of_link.trace old)
     → (s ≡ status.LinkFailed → RoseBy (of_link.faults old) (of_link.faults new) 1)
     → (s ≢ status.LinkFailed → of_link.faults new ≡ of_link.faults old)
     → of_link.calls new ≡ of_link.calls old → high ≡ low → is_line text
-    → (t : Trace) × WentBy of_link old new t
-    × SummaryEnds is_line (counts turns (of_link.calls old) (of_link.calls new) (faults (of_link.faults old) of_files low 0) (faults (of_link.faults new) of_files high 0)) t s
-summary_sent of_link old new is_line text turns of_files low high s is sent not_sent counted uncounted calls same line = elim is [
+    → (t : Traffic) × WentBy of_link old new t
+    × SummaryEnds is_line (counts turns (of_link.calls old) (of_link.calls new) (faults (of_link.faults old) of_files low y) (faults (of_link.faults new) of_files high y)) t s
+summary_sent of_link old new is_line text y turns of_files low high s is sent not_sent counted uncounted calls same line = elim is [
   | inl e ↦ (
-    record { arrivals = []; messages = record { peer = 1; text = text } ∷ []; closings = [] },
+    record { arrivals = []; messages = record { peer = 1; text = text } ∷ []; closings = []; offers = [] },
     λ told. sent told e,
     rw e (
       text,
@@ -67,7 +68,7 @@ summary_sent of_link old new is_line text turns of_files low high s is sent not_
       record {
         traffic = refl;
         calls = calls;
-        rose = all_rose (of_link.faults old) (of_link.faults new) of_files of_files low high [] (rose_still _ _ (uncounted (λ f. let g = sym e in let h = f in cc)))
+        rose = all_rose y (of_link.faults old) (of_link.faults new) of_files of_files low high [] (rose_still _ _ (uncounted (λ f. let g = sym e in let h = f in cc)))
             (rose_still of_files of_files refl) (rose_still low high same) refl;
       },
     ),
@@ -78,7 +79,7 @@ summary_sent of_link old new is_line text turns of_files low high s is sent not_
     rw e (record {
       traffic = refl;
       calls = calls;
-      rose = all_rose (of_link.faults old) (of_link.faults new) of_files of_files low high (deed.lost link ∷ []) (counted e)
+      rose = all_rose y (of_link.faults old) (of_link.faults new) of_files of_files low high (deed.lost link ∷ []) (counted e)
           (rose_still of_files of_files refl) (rose_still low high same) refl;
     }),
   )
@@ -88,26 +89,26 @@ summary_sent of_link old new is_line text turns of_files low high s is sent not_
     rw e (record {
       traffic = refl;
       calls = calls;
-      rose = all_rose (of_link.faults old) (of_link.faults new) of_files of_files low high [] (rose_still _ _ (uncounted (λ f. let g = e in cc)))
+      rose = all_rose y (of_link.faults old) (of_link.faults new) of_files of_files low high [] (rose_still _ _ (uncounted (λ f. let g = e in cc)))
           (rose_still of_files of_files refl) (rose_still low high same) refl;
     }),
   )
 ]
 
 -- where nothing was there to be sent: a call of the index's device failed, or memory ran out
-pub nothing_sent : {K : Type 0} (of_link : links.Ghosts K) (k : K) (is_line : List ℕ → Type 0) (turns of_files low high : ℕ) (s : Status)
+pub nothing_sent : {K : Type 0} (of_link : links.Ghosts K) (k : K) (is_line : List ℕ → Type 0) (y turns of_files low high : ℕ) (s : Status)
     → (s ≡ status.DiskFailed) ⊎ (s ≡ status.OutOfMemory)
     → (s ≡ status.DiskFailed → RoseBy low high 1) → (s ≢ status.DiskFailed → high ≡ low)
-    → (t : Trace) × WentBy of_link k k t
-    × SummaryEnds is_line (counts turns (of_link.calls k) (of_link.calls k) (faults (of_link.faults k) of_files low 0) (faults (of_link.faults k) of_files high 0)) t s
-nothing_sent of_link k is_line turns of_files low high s is counted uncounted = elim is [
+    → (t : Traffic) × WentBy of_link k k t
+    × SummaryEnds is_line (counts turns (of_link.calls k) (of_link.calls k) (faults (of_link.faults k) of_files low y) (faults (of_link.faults k) of_files high y)) t s
+nothing_sent of_link k is_line y turns of_files low high s is counted uncounted = elim is [
   | inl e ↦ (
     no_traffic,
     λ told. goes_none (of_link.trace k),
     rw e (record {
       traffic = refl;
       calls = refl;
-      rose = all_rose (of_link.faults k) (of_link.faults k) of_files of_files low high (deed.lost disk ∷ []) (rose_still _ _ refl)
+      rose = all_rose y (of_link.faults k) (of_link.faults k) of_files of_files low high (deed.lost disk ∷ []) (rose_still _ _ refl)
           (rose_still of_files of_files refl) (counted e) refl;
     }),
   )
@@ -117,19 +118,19 @@ nothing_sent of_link k is_line turns of_files low high s is counted uncounted = 
     rw e (record {
       traffic = refl;
       calls = refl;
-      rose = all_rose (of_link.faults k) (of_link.faults k) of_files of_files low high [] (rose_still _ _ refl)
+      rose = all_rose y (of_link.faults k) (of_link.faults k) of_files of_files low high [] (rose_still _ _ refl)
           (rose_still of_files of_files refl) (rose_still low high (uncounted (λ f. let g = e in cc))) refl;
     }),
   )
 ]
 
 -- each status of a check has its cause
-pub check_caused : (turns calls calls' a a' b d d' : ℕ) (s : Status) → calls' ≡ calls → a ≤ a' → d ≤ d'
+pub check_caused : {y : ℕ} (turns calls calls' a a' b d d' : ℕ) (s : Status) → calls' ≡ calls → a ≤ a' → d ≤ d'
     → s ≢ status.TurnsSpent → failed_device s ≢ Some archive
     → (failed_device s ≡ Some link → HasRisen a a') → (failed_device s ≡ Some disk → HasRisen d d')
-    → ShowsCause (counts turns calls calls' (faults a b d 0) (faults a' b d' 0)) s
-check_caused turns calls calls' a a' b d d' s same more_link more_disk no_turns no_files by_link by_disk = record {
-  more = each_more (faults a b d 0) (faults a' b d' 0) more_link (omega arith) more_disk (omega arith);
+    → ShowsCause (counts turns calls calls' (faults a b d y) (faults a' b d' y)) s
+check_caused {y} turns calls calls' a a' b d d' s same more_link more_disk no_turns no_files by_link by_disk = record {
+  more = each_more (faults a b d y) (faults a' b d' y) more_link (omega arith) more_disk (omega arith);
   rose = rose;
   calls = 0;
   called = omega arith;
@@ -137,7 +138,7 @@ check_caused turns calls calls' a a' b d d' s same more_link more_disk no_turns 
   spent = λ e. absurd (no_turns e);
 }
   where
-    rose : (device : Device) → failed_device s ≡ Some device → HasRisen (faults a b d 0 device) (faults a' b d' 0 device)
+    rose : (device : Device) → failed_device s ≡ Some device → HasRisen (faults a b d y device) (faults a' b d' y device)
     rose link e = by_link e
     rose archive e = absurd (no_files e)
     rose disk e = by_disk e
@@ -147,10 +148,10 @@ pub risen_by : (a b : ℕ) → RoseBy a b 1 → (a ≤ b) × HasRisen a b
 risen_by a b r = (omega arith, omega arith)
 
 -- where a summary was there to be sent
-pub sent_caused : (turns calls calls' a a' b d d' : ℕ) (s : Status)
+pub sent_caused : {y : ℕ} (turns calls calls' a a' b d d' : ℕ) (s : Status)
     → (s ≡ status.Ended) ⊎ ((s ≡ status.LinkFailed) ⊎ (s ≡ status.OutOfMemory))
     → (s ≡ status.LinkFailed → RoseBy a a' 1) → (s ≢ status.LinkFailed → a' ≡ a) → calls' ≡ calls → d' ≡ d
-    → ShowsCause (counts turns calls calls' (faults a b d 0) (faults a' b d' 0)) s
+    → ShowsCause (counts turns calls calls' (faults a b d y) (faults a' b d' y)) s
 sent_caused turns calls calls' a a' b d d' s is counted uncounted same still = elim is [
   | inl e ↦
       let x = uncounted (λ f. let g = sym e in let h = f in cc) in

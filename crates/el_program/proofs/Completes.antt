@@ -7,7 +7,8 @@ use Rattle.el_side.specs.Deeds as deed
 use Rattle.el_side.specs.Deeds.{Device, Deed, link, archive, disk, relay, failures, NoneLost, Rose}
 use Rattle.el_side.proofs.Deeds.{none_front, none_back}
 use Rattle.el_outside.specs.Files.{AllGrow}
-use Rattle.el_outside.specs.Trace.{Trace, ArrivalWithBytes, Message, Closing}
+use Rattle.el_outside.specs.Trace.{ArrivalWithBytes, Message, Closing}
+use Rattle.el_loop.specs.Traffic.{Traffic}
 use Rattle.el_outside.specs.declared.archive.Archive as block_files
 use Rattle.el_outside.proofs.Traces.{all_grow_none, all_grow_more}
 use Rattle.el_chain.specs.Chains.{Chain}
@@ -85,7 +86,7 @@ pub record Calm {A : Type 0} (of_files : block_files.Ghosts A) : Type 0 where
       → HasRecords after chain → Moves (StoodAt of_files before after) chain p blocks → HasRecords after (target p chain blocks)
 
 module _ {A : Type 0} (of_files : block_files.Ghosts A) (calm : Calm of_files) (told : of_files.tells)
-    (c : Counts) (none : NoneFailed c) (t : Trace) where
+    (c : Counts) (none : NoneFailed c) (t : Traffic) where
   silent_calm : (losses : List Deed) → IsSilent c t losses → NoneLost losses × Undisturbed t.messages t.closings
   silent_calm losses s = (none_lost c losses none s.rose, rw s.traffic (record { sent = tt; closed = tt }))
 
@@ -125,9 +126,9 @@ module _ {A : Type 0} (of_files : block_files.Ghosts A) (calm : Calm of_files) (
     run_complete end.OutOfMemory r = record { ends = tt; calm = (halted _ r).1 }
     run_complete end.TurnsSpent r = record { ends = tt; calm = (ran [] r.0).1 }
 
-  module _ (magic : List ℕ) (limits : PoolLimits) (chain : Chain) (leaves : Chain → Chain → Type 0) (before after : A)
+  module _ (magic : List ℕ) (limits : PoolLimits) (relays : Bool) (chain : Chain) (leaves : Chain → Chain → Type 0) (before after : A)
       (records : HasRecords (of_files.bytes before) chain) (shows : ShowWholeRecords of_files magic (of_files.bytes before) (of_files.bytes after)) where
-    served : (e : End) → IsServed of_files magic limits (certain chain) leaves c before after t e → IsComplete t (status_of_end e)
+    served : (e : End) → IsServed of_files magic limits relays (certain chain) leaves c before after t e → IsComplete t (status_of_end e)
     served e r =
         let now = of_files.bytes r.now in
         let here = calm.stay (of_files.bytes before) now chain (r.scanned.keeps told) records in
@@ -140,7 +141,7 @@ module _ {A : Type 0} (of_files : block_files.Ghosts A) (calm : Calm of_files) (
           chain = here;
         }) (shows_within of_files magic (of_files.bytes before) (of_files.bytes after) now (of_files.bytes after) (r.scanned.keeps told) (all_grow_none (of_files.bytes after)) shows) e r.run
 
-    serve_complete : (s : Status) → ServeEnds of_files magic limits (certain chain) leaves c before after t s → IsComplete t s
+    serve_complete : (s : Status) → ServeEnds of_files magic limits relays (certain chain) leaves c before after t s → IsComplete t s
     serve_complete status.Ended r = served end.Ended r
     serve_complete status.Usage r = absurd r
     serve_complete status.BadIndex r = absurd r
@@ -153,6 +154,8 @@ module _ {A : Type 0} (of_files : block_files.Ghosts A) (calm : Calm of_files) (
     serve_complete status.TurnsSpent r = served end.TurnsSpent r
     serve_complete status.OtherChain r = silent _ r.1 (λ u. record { ends = tt; calm = u })
     serve_complete status.BadChain r = absurd r
+    serve_complete status.AuditDiffers r = absurd r
+    serve_complete status.AuditTooLarge r = absurd r
 
     unopened_complete : (was flight : Chain) (s : Status) → UnopenedEnds true was flight leaves c t s → IsComplete t s
     unopened_complete was flight status.Ended r = absurd r
@@ -165,8 +168,10 @@ module _ {A : Type 0} (of_files : block_files.Ghosts A) (calm : Calm of_files) (
     unopened_complete was flight status.TurnsSpent r = absurd r
     unopened_complete was flight status.OtherChain r = absurd r
     unopened_complete was flight status.BadChain r = absurd r
+    unopened_complete was flight status.AuditDiffers r = absurd r
+    unopened_complete was flight status.AuditTooLarge r = absurd r
 
-    pub index_complete : (was flight : Chain) (s : Status) → IndexEnds of_files magic limits was flight (certain chain) leaves c before after t s → IsComplete t s
+    pub index_complete : (was flight : Chain) (s : Status) → IndexEnds of_files magic limits relays was flight (certain chain) leaves c before after t s → IsComplete t s
     index_complete was flight s (inl r) = unopened_complete was flight s r
     index_complete was flight s (inr r) = serve_complete s r
 
@@ -194,3 +199,5 @@ module _ {A : Type 0} (of_files : block_files.Ghosts A) (calm : Calm of_files) (
     once_complete status.TurnsSpent r = served_once end.TurnsSpent r
     once_complete status.OtherChain r = absurd r
     once_complete status.BadChain r = silent _ r.1 (λ u. record { ends = tt; calm = u })
+    once_complete status.AuditDiffers r = absurd r
+    once_complete status.AuditTooLarge r = absurd r

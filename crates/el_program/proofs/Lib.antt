@@ -1,3 +1,4 @@
+pub mod Audits
 pub mod Checks
 pub mod Completes
 pub mod FileLemmas
@@ -5,6 +6,7 @@ pub mod FreshDisks
 pub mod IndexDisks
 pub mod LifeLemmas
 pub mod Openings
+pub mod OwnAudits
 pub mod Programs
 pub mod Rises
 pub mod Servings

@@ -1,10 +1,11 @@
 -- Lives follow each other.
 use Rattle.std.proofs.Common.{Bool, true, true≢false, ◌≡◌, ◌⊎◌, inl, inr, ℕ, List, [], ◌∷◌, length, take, refl, arith}
 use Rattle.std.specs.List.{AllByRecursion}
-use Rattle.el_outside.specs.Trace.{Trace}
+use Rattle.el_loop.specs.Traffic.{Traffic}
 use Rattle.el_outside.specs.declared.archive.Archive as archive
 use Rattle.el_outside.specs.declared.disk.Disk as disk
 use Rattle.el_outside.specs.declared.link.Link as link
+use Rattle.el_outside.specs.declared.relay.Relay as relay
 use Rattle.el_outside.specs.Disk.{Image}
 use Rattle.el_chain.specs.Chains.{Chain}
 use Rattle.el_mempool.specs.declared.entry.PoolLimits.{PoolLimits}
@@ -29,7 +30,7 @@ use Rattle.el_migrate.specs.ImageChains.{ImageStands}
 use Rattle.el_words.specs.Commands.{IsServe}
 use Rattle.el_program.specs.AnyCall.{IsCall}
 use Rattle.el_program.specs.IndexDisks.{LeavesOneOf, IsIndexDisk}
-use Rattle.el_program.proofs.Checks.{serve_no_check}
+use Rattle.el_program.proofs.Audits.{serve_no_summary}
 use Rattle.el_program.specs.Calls.{Call, CallEnds}
 use Rattle.el_program.specs.Ends.{serve, IndexEnds, UnopenedEnds, ServeEnds, IsServed}
 use Rattle.el_program.specs.Opened.{certain}
@@ -59,7 +60,7 @@ module _ (P : Chain → Chain → Type 0) where
   both a b = (refl, refl)
 
   run_pinned : {A : Type 0} (of_files : archive.Ghosts A) (first : World) (node : Bool)
-      (files : ℕ → List ℕ) (c : Counts) (t : Trace) (failed : List Deed)
+      (files : ℕ → List ℕ) (c : Counts) (t : Traffic) (failed : List Deed)
       → first.side.sure ≡ true → IsRun of_files first node P files c t failed
       → Pinned P (λ Q. IsRun of_files first node Q files c t failed)
   run_pinned of_files first node files c t failed sure r = record {
@@ -79,7 +80,7 @@ module _ (P : Chain → Chain → Type 0) where
   }
 
   halt_pinned : {A : Type 0} (of_files : archive.Ghosts A) (first : World) (node : Bool)
-      (files : ℕ → List ℕ) (c : Counts) (t : Trace) (stop : Stop)
+      (files : ℕ → List ℕ) (c : Counts) (t : Traffic) (stop : Stop)
       → first.side.sure ≡ true → IsHalted of_files first node P files c t stop
       → Pinned P (λ Q. IsHalted of_files first node Q files c t stop)
   halt_pinned of_files first node files c t stop sure h = record {
@@ -106,7 +107,7 @@ module _ (P : Chain → Chain → Type 0) where
       record { acked = k.acked; flight = k.flight; leaves = k.leaves; ends = ends }
 
   ends_pinned : {A : Type 0} (of_files : archive.Ghosts A) (first : World) (node : Bool)
-      (files : ℕ → List ℕ) (c : Counts) (t : Trace) (e : End)
+      (files : ℕ → List ℕ) (c : Counts) (t : Traffic) (e : End)
       → first.side.sure ≡ true → RunEnds of_files first node P files c t e
       → Pinned P (λ Q. RunEnds of_files first node Q files c t e)
   ends_pinned of_files first node files c t end.Ended sure r =
@@ -121,9 +122,9 @@ module _ (P : Chain → Chain → Type 0) where
       with_more (λ X k. (k, r.1, r.2)) (run_pinned of_files first node files c t _ sure r.0)
 
   module _ {A : Type 0} (of_files : archive.Ghosts A) (magic : List ℕ)
-      (limits : PoolLimits) (chain : Chain) (c : Counts) (before after : A) (t : Trace) where
-    served_pinned : (e : End) → IsServed of_files magic limits (certain chain) P c before after t e
-        → Pinned P (λ Q. IsServed of_files magic limits (certain chain) Q c before after t e)
+      (limits : PoolLimits) (relays : Bool) (chain : Chain) (c : Counts) (before after : A) (t : Traffic) where
+    served_pinned : (e : End) → IsServed of_files magic limits relays (certain chain) P c before after t e
+        → Pinned P (λ Q. IsServed of_files magic limits relays (certain chain) Q c before after t e)
     served_pinned e r = with_more (λ X k. record {
       headers = r.headers;
       told = r.told;
@@ -138,8 +139,8 @@ module _ (P : Chain → Chain → Type 0) where
     alone : {Q : (Chain → Chain → Type 0) → Type 0} → (a b : Chain) → P a b → Q (these a b) → Pinned P Q
     alone a b leaves ends = record { acked = a; flight = b; leaves = leaves; ends = ends }
 
-    serve_pinned : (s : Status) → ServeEnds of_files magic limits (certain chain) P c before after t s
-        → Pinned P (λ Q. ServeEnds of_files magic limits (certain chain) Q c before after t s)
+    serve_pinned : (s : Status) → ServeEnds of_files magic limits relays (certain chain) P c before after t s
+        → Pinned P (λ Q. ServeEnds of_files magic limits relays (certain chain) Q c before after t s)
     serve_pinned status.Ended r = served_pinned _ r
     serve_pinned status.Usage r = absurd r
     serve_pinned status.BadIndex r = absurd r
@@ -152,6 +153,8 @@ module _ (P : Chain → Chain → Type 0) where
     serve_pinned status.TurnsSpent r = served_pinned _ r
     serve_pinned status.OtherChain r = alone chain chain (r.2 refl) (r.0, r.1, λ s. both chain chain)
     serve_pinned status.BadChain r = absurd r
+    serve_pinned status.AuditDiffers r = absurd r
+    serve_pinned status.AuditTooLarge r = absurd r
 
     unopened_pinned : (was flight : Chain) (s : Status) → UnopenedEnds true was flight P c t s
         → Pinned P (λ Q. UnopenedEnds true was flight Q c t s)
@@ -165,31 +168,33 @@ module _ (P : Chain → Chain → Type 0) where
     unopened_pinned was flight status.TurnsSpent r = absurd r
     unopened_pinned was flight status.OtherChain r = absurd r
     unopened_pinned was flight status.BadChain r = absurd r
+    unopened_pinned was flight status.AuditDiffers r = absurd r
+    unopened_pinned was flight status.AuditTooLarge r = absurd r
 
     index_pinned : (was flight : Chain) (s : Status)
-        → IndexEnds of_files magic limits was flight (certain chain) P c before after t s
-        → Pinned P (λ Q. IndexEnds of_files magic limits was flight (certain chain) Q c before after t s)
+        → IndexEnds of_files magic limits relays was flight (certain chain) P c before after t s
+        → Pinned P (λ Q. IndexEnds of_files magic limits relays was flight (certain chain) Q c before after t s)
     index_pinned was flight s (inl r) = with_more (λ X k. inl k) (unopened_pinned was flight s r)
     index_pinned was flight s (inr r) = with_more (λ X k. inr k) (serve_pinned s r)
 
 -- 2. Lives
 
-module _ {D A K : Type 0} (of_disk : disk.Ghosts D) (of_files : archive.Ghosts A) (of_link : link.Ghosts K)
+module _ {D A Y K : Type 0} (of_disk : disk.Ghosts D) (of_files : archive.Ghosts A) (of_relay : relay.Ghosts Y) (of_link : link.Ghosts K)
     (magic : List ℕ) where
   -- how a life ended, and what it left
-  pub record Ended (l : Call D A K) (was flight chain : Chain) : Type 0 where
+  pub record Ended (l : Call D A Y K) (was flight chain : Chain) : Type 0 where
     pub acked : Chain
     pub in_flight : Chain
     pub leaves : LeavesOneOf of_disk magic l.after.disk acked in_flight
-    pub ends : CallEnds of_disk of_files of_link l was flight (certain chain) (λ m a b. these acked in_flight a b)
+    pub ends : CallEnds of_disk of_files of_relay of_link l was flight (certain chain) (λ m a b. these acked in_flight a b)
 
-  ended : (l : Call D A K) (was flight chain : Chain) → IsServe l.words magic
-      → IsIndexDisk of_disk magic l.before.disk was flight chain → IsCall of_disk of_files of_link l
+  ended : (l : Call D A Y K) (was flight chain : Chain) → IsServe l.words magic
+      → IsIndexDisk of_disk magic l.before.disk was flight chain → IsCall of_disk of_files of_relay of_link l
       → Ended l was flight chain
   ended l was flight chain serves is call =
-      let e = call.served (λ count check. serve_no_check serves.is_serve check) was flight (certain chain) (λ sure m also. rw (same_networks also serves) is) in
+      let e = call.served (serve_no_summary serves.is_serve) was flight (certain chain) (λ sure m also. rw (same_networks also serves) is) in
       let only = only_served serves e.2 in
-      let k = index_pinned (LeavesOneOf of_disk magic l.after.disk) of_files magic serves.said.settings.limits chain _ l.before.files l.after.files e.0 was flight l.status only
+      let k = index_pinned (LeavesOneOf of_disk magic l.after.disk) of_files magic serves.said.settings.limits serves.said.settings.relays chain _ l.before.files l.after.files e.0 was flight l.status only
       in record {
         acked = k.acked;
         in_flight = k.flight;
@@ -198,22 +203,22 @@ module _ {D A K : Type 0} (of_disk : disk.Ghosts D) (of_files : archive.Ghosts A
       }
 
   -- a life, and those after it, whichever chain it finds
-  one_more : (was flight chain : Chain) (l : Call D A K) (more : List (Call D A K))
+  one_more : (was flight chain : Chain) (l : Call D A Y K) (more : List (Call D A Y K))
       → (chain ≡ was) ⊎ (chain ≡ flight) → (e : Ended l was flight chain)
-      → GoOn of_disk of_files of_link e.acked e.in_flight more → GoOn of_disk of_files of_link was flight
+      → GoOn of_disk of_files of_relay of_link e.acked e.in_flight more → GoOn of_disk of_files of_relay of_link was flight
       (l ∷ more)
   one_more was flight chain l more from e then = one was flight l more chain e.acked e.in_flight from e.ends
       then
 
   -- how the life ends on a disk that the one before may have left, by the chain that it finds
-  pub record Found (l : Call D A K) (was flight : Chain) : Type 0 where
+  pub record Found (l : Call D A Y K) (was flight : Chain) : Type 0 where
     pub chain : Chain
     pub from : (chain ≡ was) ⊎ (chain ≡ flight)
     pub end : Ended l was flight chain
 
-  pub found : (d : D) (was flight : Chain) (l : Call D A K) → of_disk.tells → LeavesOneOf of_disk magic d was
+  pub found : (d : D) (was flight : Chain) (l : Call D A Y K) → of_disk.tells → LeavesOneOf of_disk magic d was
       flight
-      → IsLeftBy of_disk d l.before.disk → IsServe l.words magic → IsCall of_disk of_files of_link l
+      → IsLeftBy of_disk d l.before.disk → IsServe l.words magic → IsCall of_disk of_files of_relay of_link l
       → Found l was flight
   found d was flight l told left is serves call =
       let here : LeavesOneOf of_disk magic l.before.disk was flight =
@@ -231,11 +236,11 @@ module _ {D A K : Type 0} (of_disk : disk.Ghosts D) (of_files : archive.Ghosts A
         }
       ]
 
-  pub lives_go : (d : D) (was flight : Chain) (lives : List (Call D A K)) → of_disk.tells
+  pub lives_go : (d : D) (was flight : Chain) (lives : List (Call D A Y K)) → of_disk.tells
       → LeavesOneOf of_disk magic d was flight → AreLives of_disk d lives
-      → AllByRecursion (λ (l : Call D A K). IsServe l.words magic) lives
-      → AllByRecursion (IsCall of_disk of_files of_link) lives
-      → GoOn of_disk of_files of_link was flight lives
+      → AllByRecursion (λ (l : Call D A Y K). IsServe l.words magic) lives
+      → AllByRecursion (IsCall of_disk of_files of_relay of_link) lives
+      → GoOn of_disk of_files of_relay of_link was flight lives
   lives_go d was flight [] told left are serve' calls = none was flight
   lives_go d was flight (l ∷ more) told left are serve' calls =
       let f = found d was flight l told left are.0 serve'.0 calls.0 in
@@ -243,15 +248,15 @@ module _ {D A K : Type 0} (of_disk : disk.Ghosts D) (of_files : archive.Ghosts A
       (lives_go l.after.disk f.end.acked f.end.in_flight more told f.end.leaves are.1 serve'.1 calls.1)
 
   -- one life, and those after it
-  pub lived_more : (d : D) (was flight : Chain) (l : Call D A K) (files files_after : List A)
-      (links links_after : List K) (ends : List Status) (left : D) (f : Found l was flight)
+  pub lived_more : (d : D) (was flight : Chain) (l : Call D A Y K) (files files_after : List A)
+      (relays relays_after : List Y) (links links_after : List K) (ends : List Status) (left : D) (f : Found l was flight)
       → IsLeftBy of_disk d l.before.disk → LeavesOthers of_disk l
-      → Lived of_disk of_files of_link l.after.disk f.end.acked f.end.in_flight l.words l.turns files
-      files_after links links_after ends left
-      → Lived of_disk of_files of_link d was flight l.words l.turns (l.before.files ∷ files)
-      (l.after.files ∷ files_after)
+      → Lived of_disk of_files of_relay of_link l.after.disk f.end.acked f.end.in_flight l.words l.turns files
+      files_after relays relays_after links links_after ends left
+      → Lived of_disk of_files of_relay of_link d was flight l.words l.turns (l.before.files ∷ files)
+      (l.after.files ∷ files_after) (l.before.relay ∷ relays) (l.after.relay ∷ relays_after)
       (l.before.link ∷ links) (l.after.link ∷ links_after) (l.status ∷ ends) left
-  lived_more d was flight l files files_after links links_after ends left f is kept then = record {
+  lived_more d was flight l files files_after relays relays_after links links_after ends left f is kept then = record {
     lives = l ∷ then.lives;
     over = (
       record {
@@ -259,6 +264,8 @@ module _ {D A K : Type 0} (of_disk : disk.Ghosts D) (of_files : archive.Ghosts A
         turns_are = refl;
         files_are = refl;
         files_then = refl;
+        relay_is = refl;
+        relay_then = refl;
         link_is = refl;
         link_then = refl;
         ends = refl;
@@ -272,17 +279,18 @@ module _ {D A K : Type 0} (of_disk : disk.Ghosts D) (of_files : archive.Ghosts A
   }
 
 -- no lives
-pub lived_none : {D A K : Type 0} (of_disk : disk.Ghosts D) (of_files : archive.Ghosts A)
-    (of_link : link.Ghosts K) (d : D) (was flight : Chain) (words : List (List ℕ)) (turns : ℕ)
-    (files : List A)
-    (links : List K) (ends : List Status) → length files ≡ 0 → length links ≡ length files
+pub lived_none : {D A Y K : Type 0} (of_disk : disk.Ghosts D) (of_files : archive.Ghosts A)
+    (of_relay : relay.Ghosts Y) (of_link : link.Ghosts K) (d : D) (was flight : Chain) (words : List (List ℕ)) (turns : ℕ)
+    (files : List A) (relays : List Y)
+    (links : List K) (ends : List Status) → length files ≡ 0 → length relays ≡ length files → length links ≡ length files
     → length ends ≡ length files
-    → Lived of_disk of_files of_link d was flight words turns files files links links ends d
-lived_none of_disk of_files of_link d was flight words turns [] [] [] e0 e1 e2 =
+    → Lived of_disk of_files of_relay of_link d was flight words turns files files relays relays links links ends d
+lived_none of_disk of_files of_relay of_link d was flight words turns [] [] [] [] e0 e1 e2 e3 =
     record { lives = []; over = tt; are = tt; last = refl; others = tt; go_on = none was flight }
-lived_none of_disk of_files of_link d was flight words turns [] [] (e ∷ es) e0 e1 e2 = absurd (omega arith)
-lived_none of_disk of_files of_link d was flight words turns [] (k ∷ ks) ends e0 e1 e2 = absurd (omega arith)
-lived_none of_disk of_files of_link d was flight words turns (a ∷ more) links ends e0 e1 e2 = absurd
+lived_none of_disk of_files of_relay of_link d was flight words turns [] [] [] (e ∷ es) e0 e1 e2 e3 = absurd (omega arith)
+lived_none of_disk of_files of_relay of_link d was flight words turns [] [] (k ∷ ks) ends e0 e1 e2 e3 = absurd (omega arith)
+lived_none of_disk of_files of_relay of_link d was flight words turns [] (y ∷ ys) links ends e0 e1 e2 e3 = absurd (omega arith)
+lived_none of_disk of_files of_relay of_link d was flight words turns (a ∷ more) relays links ends e0 e1 e2 e3 = absurd
     (omega arith)
 
 -- 3. Empty files

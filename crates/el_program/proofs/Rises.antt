@@ -29,18 +29,20 @@ no_relay status.OutOfMemory e = cc
 no_relay status.TurnsSpent e = cc
 no_relay status.OtherChain e = cc
 no_relay status.BadChain e = cc
+no_relay status.AuditDiffers e = cc
+no_relay status.AuditTooLarge e = cc
 
 -- No call of `next` was made, and no call failed but one that is told, of the block files or of the index's
 -- device.
-unserved_caused : (turns calls of_link low high of_disk now : ℕ) (s : Status) → low ≤ high → of_disk ≤ now
+pub unserved_caused : {y : ℕ} (turns calls of_link low high of_disk now : ℕ) (s : Status) → low ≤ high → of_disk ≤ now
     → failed_device s ≢ Some link → s ≢ status.TurnsSpent
     → (failed_device s ≡ Some archive → HasRisen low high)
     → (failed_device s ≡ Some disk → HasRisen of_disk now)
-    → ShowsCause (counts turns calls calls (faults of_link low of_disk 0) (faults of_link high now 0)) s
-unserved_caused turns calls of_link low high of_disk now s files_more disk_more no_link no_turns by_files
+    → ShowsCause (counts turns calls calls (faults of_link low of_disk y) (faults of_link high now y)) s
+unserved_caused {y} turns calls of_link low high of_disk now s files_more disk_more no_link no_turns by_files
     by_disk =
     record {
-      more = each_more (faults of_link low of_disk 0) (faults of_link high now 0) (omega arith) files_more
+      more = each_more (faults of_link low of_disk y) (faults of_link high now y) (omega arith) files_more
           disk_more (omega arith);
       rose = rose;
       calls = 0;
@@ -50,19 +52,19 @@ unserved_caused turns calls of_link low high of_disk now s files_more disk_more 
     }
   where
     rose : (device : Device) → failed_device s ≡ Some device
-        → HasRisen (faults of_link low of_disk 0 device) (faults of_link high now 0 device)
+        → HasRisen (faults of_link low of_disk y device) (faults of_link high now y device)
     rose link e = absurd (no_link e)
     rose archive e = by_files e
     rose disk e = by_disk e
     rose relay e = absurd (no_relay s e)
 
-one_risen : (a b : ℕ) → RoseBy a b 1 → HasRisen a b
+pub one_risen : (a b : ℕ) → RoseBy a b 1 → HasRisen a b
 one_risen a b r = omega arith
 
-one_more : (a b : ℕ) → RoseBy a b 1 → a ≤ b
+pub one_more : (a b : ℕ) → RoseBy a b 1 → a ≤ b
 one_more a b r = omega arith
 
-still : (a b : ℕ) → b ≡ a → a ≤ b
+pub still : (a b : ℕ) → b ≡ a → a ≤ b
 still a b e = omega arith
 
 -- the words are refused
@@ -76,12 +78,23 @@ caused_none turns calls f = record {
   spent = λ e. absurd cc;
 }
 
+-- out of memory before a device was called
+pub caused_starved : (turns calls : ℕ) (f : Faults) → ShowsCause (counts turns calls calls f f) status.OutOfMemory
+caused_starved turns calls f = record {
+  more = λ device. omega arith;
+  rose = λ device e. absurd cc;
+  calls = 0;
+  called = omega arith;
+  few = omega arith;
+  spent = λ e. absurd cc;
+}
+
 -- the index isn't opened
-pub unopened_caused : (turns calls of_link of_archive of_disk now : ℕ) (s : Status)
+pub unopened_caused : {y : ℕ} (turns calls of_link of_archive of_disk now : ℕ) (s : Status)
     → (s ≡ status.BadIndex) ⊎ ((s ≡ status.DiskFailed) ⊎ (s ≡ status.OutOfMemory))
     → (s ≡ status.DiskFailed → RoseBy of_disk now 1) → (s ≢ status.DiskFailed → now ≡ of_disk)
     → ShowsCause
-    (counts turns calls calls (faults of_link of_archive of_disk 0) (faults of_link of_archive now 0)) s
+    (counts turns calls calls (faults of_link of_archive of_disk y) (faults of_link of_archive now y)) s
 unopened_caused turns calls of_link of_archive of_disk now s is counted uncounted = elim is [
   | inl bad ↦ rw bad (unserved_caused turns calls of_link of_archive of_archive of_disk now _ (omega arith)
       (still of_disk now (uncounted (λ e. cc))) (λ e. cc) (λ e. cc) (λ e. absurd cc) (λ e. absurd cc))
@@ -95,10 +108,10 @@ unopened_caused turns calls of_link of_archive of_disk now s is counted uncounte
 
 -- the index is open, but its headers or those of the block files can't be had
 pub start_caused : {S T : Type 0} (tells : Type 0) (files files_now : ℕ → List ℕ)
-    (turns calls of_link low high of_disk now : ℕ) (e : StartFault)
+    {y : ℕ} (turns calls of_link low high of_disk now : ℕ) (e : StartFault)
     → OnlyReads {T = S} tells files files_now low high start.ArchiveFailed (Err e)
     → CountsOnly {T = T} of_disk now start.DiskFailed (Err e)
-    → ShowsCause (counts turns calls calls (faults of_link low of_disk 0) (faults of_link high now 0))
+    → ShowsCause (counts turns calls calls (faults of_link low of_disk y) (faults of_link high now y))
     (start_status e)
 start_caused tells files files_now turns calls of_link low high of_disk now start.DiskFailed reads counts =
     let d = counts.counted refl in
@@ -123,9 +136,9 @@ start_caused tells files files_now turns calls of_link low high of_disk now star
 
 -- file 0 can't be read
 pub unread_caused : {T : Type 0} (tells : Type 0) (files files_now : ℕ → List ℕ)
-    (turns calls of_link low high of_disk : ℕ) (e : FileFault)
+    {y : ℕ} (turns calls of_link low high of_disk : ℕ) (e : FileFault)
     → OnlyReads {T = T} tells files files_now low high file.Failed (Err e)
-    → ShowsCause (counts turns calls calls (faults of_link low of_disk 0) (faults of_link high of_disk 0))
+    → ShowsCause (counts turns calls calls (faults of_link low of_disk y) (faults of_link high of_disk y))
     (unread_status e)
 unread_caused tells files files_now turns calls of_link low high of_disk file.Failed reads =
     let a = reads.counted refl in
@@ -142,14 +155,14 @@ unread_caused tells files files_now turns calls of_link low high of_disk file.Ba
     (λ e. cc) (λ e. cc) (λ e. absurd cc) (λ e. absurd cc)
 
 -- a count that stays 0 counts no failure, and another count may stay
-pub caused_still : (turns calls calls_now of_link link_now of_archive archive_now of_disk : ℕ) (s : Status)
-    → ShowsCause (counts turns calls calls_now (faults of_link of_archive 0 0) (faults link_now archive_now 0 0))
+pub caused_still : {y y' : ℕ} (turns calls calls_now of_link link_now of_archive archive_now of_disk : ℕ) (s : Status)
+    → ShowsCause (counts turns calls calls_now (faults of_link of_archive 0 y) (faults link_now archive_now 0 y'))
     s
-    → ShowsCause (counts turns calls calls_now (faults of_link of_archive of_disk 0)
-    (faults link_now archive_now of_disk 0)) s
-caused_still turns calls calls_now of_link link_now of_archive archive_now of_disk s k = record {
-  more = each_more (faults of_link of_archive of_disk 0) (faults link_now archive_now of_disk 0) (k.more link)
-      (k.more archive) (omega arith) (omega arith);
+    → ShowsCause (counts turns calls calls_now (faults of_link of_archive of_disk y)
+    (faults link_now archive_now of_disk y')) s
+caused_still {y} {y'} turns calls calls_now of_link link_now of_archive archive_now of_disk s k = record {
+  more = each_more (faults of_link of_archive of_disk y) (faults link_now archive_now of_disk y') (k.more link)
+      (k.more archive) (omega arith) (k.more relay);
   rose = rose;
   calls = k.calls;
   called = k.called;
@@ -158,7 +171,7 @@ caused_still turns calls calls_now of_link link_now of_archive archive_now of_di
 }
   where
     rose : (device : Device) → failed_device s ≡ Some device
-        → HasRisen (faults of_link of_archive of_disk 0 device) (faults link_now archive_now of_disk 0 device)
+        → HasRisen (faults of_link of_archive of_disk y device) (faults link_now archive_now of_disk y' device)
     rose link e = k.rose link e
     rose archive e = k.rose archive e
     rose disk e = let r = k.rose disk e in absurd (omega arith)

@@ -3,7 +3,7 @@ use Rattle.std.specs.Prelude.{◌≡◌, ◌≤◌, ℕ, List, [], ◌∷◌}
 use Rattle.el_outside.specs.declared.disk.Disk as disks
 use Rattle.el_side.specs.Deeds as deed
 use Rattle.el_side.specs.Deeds.{disk, link, Rose}
-use Rattle.el_outside.specs.Trace.{Trace}
+use Rattle.el_loop.specs.Traffic.{Traffic}
 use Rattle.el_gen.specs.MadeFile.{regtest_magic}
 use Rattle.el_check_chain.specs.Checked.{Way, summary_at_end}
 use Rattle.el_check_chain.specs.Summaries.{summary_line}
@@ -16,14 +16,14 @@ use Rattle.el_program.specs.declared.status.Status.{Status}
 use Rattle.el_program.specs.declared.status.Status.TheVariants as status
 
 -- this text was sent to client 1, nothing else went over the link, and no call failed
-pub record IsSent (c : Counts) (t : Trace) (text : List ℕ) : Type 0 where
-  pub traffic : t ≡ record { arrivals = []; messages = record { peer = 1; text = text } ∷ []; closings = [] }
+pub record IsSent (c : Counts) (t : Traffic) (text : List ℕ) : Type 0 where
+  pub traffic : t ≡ record { arrivals = []; messages = record { peer = 1; text = text } ∷ []; closings = []; offers = [] }
   pub calls : c.calls_after ≡ c.calls_before
   pub rose : Rose c.faults_before c.faults_after []
 
 -- How a command ends that sends one line to client 1, of which this is so: the line was sent; or nothing was,
 -- since a call of the index's device failed, or the send, or no memory was found.
-abbrev pub SummaryEnds : (List ℕ → Type 0) → Counts → Trace → Status → Type 0
+abbrev pub SummaryEnds : (List ℕ → Type 0) → Counts → Traffic → Status → Type 0
 SummaryEnds is_line c t status.Ended = (text : List ℕ) × is_line text × IsSent c t text
 SummaryEnds is_line c t status.DiskFailed = IsSilent c t (deed.lost disk ∷ [])
 SummaryEnds is_line c t status.LinkFailed = IsSilent c t (deed.lost link ∷ [])

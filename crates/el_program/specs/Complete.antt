@@ -2,7 +2,7 @@
 use Rattle.std.specs.Prelude.{◌≡◌, ◌<◌, ⊤}
 use Rattle.el_outside.specs.Counts.{count_limit}
 use Rattle.el_side.specs.Deeds.{Device}
-use Rattle.el_outside.specs.Trace.{Trace}
+use Rattle.el_loop.specs.Traffic.{Traffic}
 use Rattle.el_loop.specs.Counts.{Counts}
 use Rattle.el_undisturbed.specs.Undisturbed.{Undisturbed}
 use Rattle.el_program.specs.declared.status.Status.{Status}
@@ -23,6 +23,6 @@ IsCompleteEnd status.BadChain = ⊤
 IsCompleteEnd other = ⊥
 
 -- The call ended so, and nothing was told or closed for a failure.
-pub record IsComplete (t : Trace) (s : Status) : Type 0 where
+pub record IsComplete (t : Traffic) (s : Status) : Type 0 where
   pub ends : IsCompleteEnd s
   pub calm : Undisturbed t.messages t.closings

@@ -1,7 +1,7 @@
 -- How a call of `serve` ends.
 use Rattle.std.specs.Prelude.{◌≡◌, ◌⊎◌, ℕ, List, [], ◌∷◌, Bool, true, false}
 use Rattle.el_outside.specs.declared.archive.Archive as block_files
-use Rattle.el_outside.specs.Trace.{Trace}
+use Rattle.el_loop.specs.Traffic.{Traffic}
 use Rattle.el_outside.specs.Files.{AllGrow}
 use Rattle.el_chain.specs.declared.node.Node.{Node}
 use Rattle.el_chain.specs.Chains.{Chain}
@@ -18,24 +18,26 @@ use Rattle.el_program.specs.Opened.{IndexChain, AreHeaders, all_added, IsScanned
 use Rattle.el_program.specs.OtherChain.{is_other_chain}
 use Rattle.el_side.specs.Deeds.{Rose}
 use Rattle.el_loop.specs.Counts.{Counts}
-use Rattle.el_loop.specs.Runs.{no_traffic, RunEnds}
+use Rattle.el_loop.specs.Runs.{RunEnds}
+use Rattle.el_loop.specs.Traffic.{no_traffic}
 use Rattle.el_loop.specs.declared.end.End.{End}
 use Rattle.el_loop.specs.declared.end.End.TheVariants as end
 use Rattle.el_program.specs.declared.status.Status.{Status}
 use Rattle.el_program.specs.declared.status.Status.TheVariants as status
 
--- the link was not called, and these calls failed
-pub record IsSilent (c : Counts) (t : Trace) (losses : List Deed) : Type 0 where
+-- the link and the relay were not called, and these calls failed
+pub record IsSilent (c : Counts) (t : Traffic) (losses : List Deed) : Type 0 where
   pub traffic : t ≡ no_traffic
   pub calls : c.calls_after ≡ c.calls_before
   pub rose : Rose c.faults_before c.faults_after losses
 
 -- A node and clients were served, from the chain that the index had, with the headers that it told and then
 -- those that the scan of all block files found; an unconfirmed set that is empty at first keeps to these
--- limits. `before` and `after` are the archive before the call and after it.
+-- limits, and the desk of broadcasts is on or off. `before` and `after` are the archive before the call and
+-- after it.
 pub record IsServed {A : Type 0} (of_files : block_files.Ghosts A)
-    (magic : List ℕ) (limits : PoolLimits) (index : IndexChain) (leaves : Chain → Chain → Type 0) (c : Counts)
-    (before after : A) (t : Trace) (e : End) : Type 0 where
+    (magic : List ℕ) (limits : PoolLimits) (relays : Bool) (index : IndexChain) (leaves : Chain → Chain → Type 0) (c : Counts)
+    (before after : A) (t : Traffic) (e : End) : Type 0 where
   pub headers : List Node
   pub told : AreHeaders index headers
   pub now : A
@@ -44,7 +46,7 @@ pub record IsServed {A : Type 0} (of_files : block_files.Ghosts A)
   pub same : is_other_chain headers nodes ≡ false
   pub grows : of_files.tells → AllGrow (of_files.bytes now) (of_files.bytes after)
   pub run : RunEnds of_files (initial_world index.sure index.chain magic limits
-      (all_added (all_added [] headers) nodes) (of_files.bytes now))
+      (all_added (all_added [] headers) nodes) (of_files.bytes now) relays)
       true leaves (of_files.bytes after) c t e
 
 -- the block files are those of another chain than the index's
@@ -62,32 +64,32 @@ LeavesChain index leaves = index.sure ≡ true → leaves index.chain index.chai
 
 -- How a call with the words of `serve` ends, once the index is open and has this chain. `leaves` says of two
 -- chains that all that a crash may leave in the end stands for the one or for the other.
-abbrev pub ServeEnds : {A : Type 0} → block_files.Ghosts A → List ℕ → PoolLimits → IndexChain
-    → (Chain → Chain → Type 0) → Counts → A → A → Trace → Status → Type 0
-ServeEnds of_files magic limits index leaves c before after t status.Ended =
-    IsServed of_files magic limits index leaves c before after t end.Ended
-ServeEnds of_files magic limits index leaves c before after t status.LinkFailed =
-    IsServed of_files magic limits index leaves c before after t end.LinkFailed
-ServeEnds of_files magic limits index leaves c before after t status.TurnsSpent =
-    IsServed of_files magic limits index leaves c before after t end.TurnsSpent
+abbrev pub ServeEnds : {A : Type 0} → block_files.Ghosts A → List ℕ → PoolLimits → Bool → IndexChain
+    → (Chain → Chain → Type 0) → Counts → A → A → Traffic → Status → Type 0
+ServeEnds of_files magic limits relays index leaves c before after t status.Ended =
+    IsServed of_files magic limits relays index leaves c before after t end.Ended
+ServeEnds of_files magic limits relays index leaves c before after t status.LinkFailed =
+    IsServed of_files magic limits relays index leaves c before after t end.LinkFailed
+ServeEnds of_files magic limits relays index leaves c before after t status.TurnsSpent =
+    IsServed of_files magic limits relays index leaves c before after t end.TurnsSpent
 -- a call of the block files failed before the first arrival
-ServeEnds of_files magic limits index leaves c before after t status.ArchiveFailed =
+ServeEnds of_files magic limits relays index leaves c before after t status.ArchiveFailed =
     IsSilent c t (deed.lost archive ∷ []) × LeavesChain index leaves
-ServeEnds of_files magic limits index leaves c before after t status.OtherChain =
+ServeEnds of_files magic limits relays index leaves c before after t status.OtherChain =
     IsOtherChain of_files magic index before after × IsSilent c t [] × LeavesChain index leaves
 -- a call of the index's device failed before the first arrival, or in the run
-ServeEnds of_files magic limits index leaves c before after t status.DiskFailed =
+ServeEnds of_files magic limits relays index leaves c before after t status.DiskFailed =
     (IsSilent c t (deed.lost disk ∷ []) × LeavesChain index leaves)
-    ⊎ IsServed of_files magic limits index leaves c before after t end.DiskFailed
+    ⊎ IsServed of_files magic limits relays index leaves c before after t end.DiskFailed
 -- out of memory before the first arrival, or in the run
-ServeEnds of_files magic limits index leaves c before after t status.OutOfMemory =
+ServeEnds of_files magic limits relays index leaves c before after t status.OutOfMemory =
     (IsSilent c t [] × LeavesChain index leaves)
-    ⊎ IsServed of_files magic limits index leaves c before after t end.OutOfMemory
-ServeEnds of_files magic limits index leaves c before after t other = ⊥
+    ⊎ IsServed of_files magic limits relays index leaves c before after t end.OutOfMemory
+ServeEnds of_files magic limits relays index leaves c before after t other = ⊥
 
 -- How a call with the words of `serve` ends where the index isn't opened. Where its chain is sure, a crash
 -- leaves then what it left before: the chain that was acknowledged or the one that was in flight.
-abbrev pub UnopenedEnds : Bool → Chain → Chain → (Chain → Chain → Type 0) → Counts → Trace → Status → Type 0
+abbrev pub UnopenedEnds : Bool → Chain → Chain → (Chain → Chain → Type 0) → Counts → Traffic → Status → Type 0
 -- a call of the index's device failed
 UnopenedEnds sure was flight leaves c t status.DiskFailed =
     IsSilent c t (deed.lost disk ∷ []) × (sure ≡ true → leaves was flight)
@@ -99,11 +101,11 @@ UnopenedEnds sure was flight leaves c t other = ⊥
 
 -- How a call with the words of `serve` ends, for a disk that reads as an index with this chain: the index is
 -- not opened, or it is, and has it.
-abbrev pub IndexEnds : {A : Type 0} → block_files.Ghosts A → List ℕ → PoolLimits → Chain
-    → Chain → IndexChain → (Chain → Chain → Type 0) → Counts → A → A → Trace → Status → Type 0
-IndexEnds of_files magic limits was flight index leaves c before after t s =
+abbrev pub IndexEnds : {A : Type 0} → block_files.Ghosts A → List ℕ → PoolLimits → Bool → Chain
+    → Chain → IndexChain → (Chain → Chain → Type 0) → Counts → A → A → Traffic → Status → Type 0
+IndexEnds of_files magic limits relays was flight index leaves c before after t s =
     UnopenedEnds index.sure was flight leaves c t s
-    ⊎ ServeEnds of_files magic limits index leaves c before after t s
+    ⊎ ServeEnds of_files magic limits relays index leaves c before after t s
 
 -- the statuses with which a call ends whose index is open
 abbrev pub IsOpenedEnd : Status → Type 0
@@ -122,13 +124,13 @@ IsUnopened other = ⊥
 -- comes, so that no limit is met. No crash is spoken of. `before` and `after` are the bytes of the block
 -- files before the call and after it.
 pub record IsServedOnce {A : Type 0} (of_files : block_files.Ghosts A) (magic : List ℕ) (c : Counts)
-    (before after : ℕ → List ℕ) (t : Trace) (e : End) : Type 0 where
+    (before after : ℕ → List ℕ) (t : Traffic) (e : End) : Type 0 where
   pub now : ℕ → List ℕ
   pub nodes : List Node
   pub chain : Chain
   pub read : IsRead of_files before now magic nodes chain
   pub grows : of_files.tells → AllGrow now after
-  pub run : RunEnds of_files (initial_world true chain magic greatest_limits (all_added [] nodes) now) false
+  pub run : RunEnds of_files (initial_world true chain magic greatest_limits (all_added [] nodes) now false) false
       (λ acked flight. Unit {0}) after c t e
 
 -- the records of file 0, up to the size that was told of it, are no chain
@@ -140,7 +142,7 @@ IsBadFile of_files magic before after =
 
 -- How a call with the words of `once` ends.
 abbrev pub OnceEnds : {A : Type 0} → block_files.Ghosts A → List ℕ → Counts → (ℕ → List ℕ) → (ℕ → List ℕ)
-    → Trace → Status → Type 0
+    → Traffic → Status → Type 0
 OnceEnds of_files magic c before after t status.Ended =
     IsServedOnce of_files magic c before after t end.Ended
 OnceEnds of_files magic c before after t status.LinkFailed =
@@ -172,12 +174,12 @@ IsUnserved other = ⊥
 -- for the other, as an index of that network.
 pub data Ends {A : Type 0} (of_files : block_files.Ghosts A)
     (words : List (List ℕ)) (was flight : Chain) (index : IndexChain)
-    (leaves : List ℕ → Chain → Chain → Type 0) (c : Counts) (before after : A) (t : Trace) (s : Status)
+    (leaves : List ℕ → Chain → Chain → Type 0) (c : Counts) (before after : A) (t : Traffic) (s : Status)
     : Type 0 where
   usage : IsNoCommand words → s ≡ status.Usage → IsSilent c t []
       → Ends of_files words was flight index leaves c before after t s
   serve : (magic : List ℕ) (asked : IsServe words magic)
-      → IndexEnds of_files magic asked.said.settings.limits was flight index (leaves magic) c before after t s
+      → IndexEnds of_files magic asked.said.settings.limits asked.said.settings.relays was flight index (leaves magic) c before after t s
       → Ends of_files words was flight index leaves c before after t s
   once : (magic : List ℕ) → IsOnce words magic
       → OnceEnds of_files magic c (of_files.bytes before) (of_files.bytes after) t s

@@ -8,6 +8,7 @@ pub mod OtherFiles
 pub mod IndexDisks
 pub mod Lives
 pub mod Checks
+pub mod Audits
 pub mod AnyCall
 pub mod Complete
 pub mod Program

@@ -26,7 +26,7 @@ failed_device other = None
 abbrev pub ShowsCause : Counts → Status → Type 0
 ShowsCause c s = IsCaused c (failed_device s) (s ≡ status.TurnsSpent)
 
--- the exit status
+-- the number that the program exits with
 abbrev pub code_of : Status → ℕ
 code_of status.Ended = 0
 code_of status.Usage = 2
@@ -38,6 +38,8 @@ code_of status.OutOfMemory = 7
 code_of status.TurnsSpent = 8
 code_of status.OtherChain = 9
 code_of status.BadChain = 10
+code_of status.AuditDiffers = 11
+code_of status.AuditTooLarge = 12
 
 -- how the call ended, in words
 abbrev pub words_of : Status → List ℕ
@@ -51,6 +53,8 @@ words_of status.OutOfMemory = codes "out of memory"
 words_of status.TurnsSpent = codes "turns spent"
 words_of status.OtherChain = codes "other chain"
 words_of status.BadChain = codes "bad chain"
+words_of status.AuditDiffers = codes "audit differs"
+words_of status.AuditTooLarge = codes "audit too large"
 
 -- the line: the program's name, a colon and a blank, the words, and byte 10
 abbrev pub line_of : Status → List ℕ

@@ -2,9 +2,10 @@
 ghost use Rattle.std.specs.Prelude.{◌≡◌, ◌≢◌, ◌⊎◌, ◌≤◌, ℕ, [], ◌∷◌};
 ghost use Rattle.el_outside.specs.Counts.{RoseBy};
 ghost use Rattle.el_side.specs.Deeds.{faults};
-ghost use Rattle.el_outside.specs.Trace.{Trace, GoesOn};
+ghost use Rattle.el_outside.specs.Trace.{GoesOn};
+ghost use Rattle.el_loop.specs.Traffic.{Traffic};
 ghost use Rattle.el_loop.specs.Counts.{counts};
-ghost use Rattle.el_loop.specs.Runs.{WentBy};
+ghost use Rattle.el_loop.specs.Traffic.{WentBy};
 ghost use Rattle.el_program.specs.Checks.{SummaryEnds, IsCheckedDisk};
 ghost use Rattle.el_program.specs.Ends.{IsUnserved};
 ghost use Rattle.el_program.specs.Lives.{IsFresh};
@@ -15,6 +16,7 @@ ghost use Rattle.el_check_chain.specs.Summaries.{summary_line};
 
 use crate::index_disk::open_index;
 use crate::status::Status;
+use crate::telling::Untold;
 use el_check_chain::{Summary, check_chain};
 use el_check_laws::check_leads_along_both_branches;
 use el_gen::MOST_MADE;
@@ -38,8 +40,8 @@ fn status_of(fault: QueryFault) -> Status
     }
 }
 
-// Sends client 1 one text, and answers how the program then ends.
-fn send_one<K: Link>(link: &mut K, text: &[u8]) -> Status
+/// Sends client 1 one text, and answers how the program then ends.
+pub fn send_one<K: Link>(link: &mut K, text: &[u8]) -> Status
     ensures ends { (result ≡ Status.Ended) ⊎ ((result ≡ Status.LinkFailed) ⊎ (result ≡ Status.OutOfMemory)) }
     ensures sent { K.tells → result ≡ Status.Ended → GoesOn (K.trace link.old) (K.trace link.new)
         [] (record { peer = 1; text = text.now } ∷ []) [] }
@@ -71,8 +73,8 @@ fn send_summary<K: Link>(alloc: Global, link: &mut K, summary: &Summary) -> Stat
     }
 }
 
-/// Opens an index on the disk, with 65,536 buckets where it is made, leads it over the made file of so many blocks, and sends client 1 the line
-/// that sums it up. The disk comes back as it stands.
+/// Opens an index on the disk, with 65,536 buckets where it is made, leads it over the made file of so many
+/// blocks, and sends client 1 the line that sums it up. The disk comes back as it stands.
 pub fn serve_check<W: Threads + Sync, D: Disk, K: Link>(
     rt: &W,
     alloc: Global,
@@ -83,24 +85,24 @@ pub fn serve_check<W: Threads + Sync, D: Disk, K: Link>(
 ) -> (Status, D)
     requires some { 1 ≤ count }
     requires few { count ≤ MOST_MADE }
-    // How often calls of the block files failed changes nothing here.
-    ensures ends { (turns of_files : ℕ) → D.tells → IsFresh ⟦<D as Disk>⟧ disk → (t : Trace)
+    // How often calls of the block files and of the relay failed changes nothing here.
+    ensures ends { (turns of_files of_relay : ℕ) → D.tells → IsFresh ⟦<D as Disk>⟧ disk → (t : Traffic)
         × WentBy ⟦<K as Link>⟧ link.old link.new t
         × SummaryEnds (IsCheckedDisk ⟦<D as Disk>⟧ count disk result.1)
         (counts turns (K.calls link.old) (K.calls link.new)
-        (faults (K.faults link.old) of_files (D.faults disk) 0)
-        (faults (K.faults link.new) of_files (D.faults result.1) 0)) t result.0 }
-    ensures causes { (turns of_files : ℕ) → ShowsCause
+        (faults (K.faults link.old) of_files (D.faults disk) of_relay)
+        (faults (K.faults link.new) of_files (D.faults result.1) of_relay)) t result.0 }
+    ensures causes { (turns of_files of_relay : ℕ) → ShowsCause
         (counts turns (K.calls link.old) (K.calls link.new)
-        (faults (K.faults link.old) of_files (D.faults disk) 0)
-        (faults (K.faults link.new) of_files (D.faults result.1) 0)) result.0 }
+        (faults (K.faults link.old) of_files (D.faults disk) of_relay)
+        (faults (K.faults link.new) of_files (D.faults result.1) of_relay)) result.0 }
     ensures others { D.tells → OthersStay ⟦<D as Disk>⟧ disk result.1 }
     ensures kept_counts { result.0 ≡ Status.BadIndex → D.faults result.1 ≡ D.faults disk }
     ensures read { result.0 ≢ Status.Usage }
     ensures unserved { IsUnserved result.0 → link.new ≡ link.old }
 {
     check_leads_along_both_branches();
-    match open_index::<D, Regtest>(alloc, disk, MIN_HEAD_BITS) {
+    match open_index::<D, Regtest, Untold>(alloc, disk, MIN_HEAD_BITS, &mut Untold) {
         Ok(index) => {
             let (checked, rows) = check_chain(rt, alloc, index, count, pace);
             let disk = rows.into_disk();

@@ -2,6 +2,7 @@
 use crate::status::Status;
 use el_net::{BlockFiles, BlockFolder, BlockPart, IndexFolder, NoDisk, StandardLink, TcpLink};
 use el_open_files::FileDisk;
+use el_relay_folder::{DirRelay, RelayFolder};
 use el_sockets::{Ports, SocketPart};
 use std::io;
 use std::io::ErrorKind;
@@ -90,6 +91,15 @@ fn tell_unsent(rt: &HostRuntime, ports: Ports) {
     let _ = eprint!(rt; "electrum_serve: node on port {node}: too many bytes are unsent to it\n");
 }
 
+impl Failing for DirRelay<RelayFolder<HostRuntime>> {
+    fn tell_failure(&self, rt: &HostRuntime) {
+        if let Some(error) = self.failure() {
+            let relay = self.outbox().folder();
+            let _ = eprint!(rt; "electrum_serve: relay folder {relay}: {error}\n");
+        }
+    }
+}
+
 impl Failing for StandardLink<HostRuntime> {
     fn tell_failure(&self, rt: &HostRuntime) {
         if let Some(error) = self.failure() {
@@ -116,7 +126,9 @@ pub fn tell_cause<D: Failing, A: Failing, K: Failing>(
         | Status::OutOfMemory
         | Status::TurnsSpent
         | Status::OtherChain
-        | Status::BadChain => {}
+        | Status::BadChain
+        | Status::AuditDiffers
+        | Status::AuditTooLarge => {}
     }
 }
 
@@ -125,8 +137,10 @@ pub fn tell_commands(rt: &HostRuntime) {
     let _ = eprint!(rt;
         "electrum_serve once --blocks DIR --network NET\n\
          electrum_serve serve --blocks DIR --index DIR --network NET --client-port N --node-port N \
-         [--pool-count N] [--pool-bytes N]\n\
+         [--pool-count N] [--pool-bytes N] [--head-bits N] [--relay DIR]\n\
          electrum_serve check-chain N\n\
+         electrum_serve audit --blocks DIR --index DIR --network NET\n\
+         electrum_serve prove-check HEADER TXID POS BRANCH\n\
          NET: main, testnet3 or regtest\n"
     );
 }

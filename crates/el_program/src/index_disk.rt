@@ -15,7 +15,6 @@ use el_migrate::{Watch, open_any};
 use el_outside::Disk;
 use el_pages::Pages;
 use el_redo::{NetworkMagic, OpenFault};
-use el_row_formats::Table;
 use std::alloc::Global;
 
 // How the program ends where the index can't be opened.
@@ -29,25 +28,19 @@ fn status_of(fault: OpenFault) -> Status
     }
 }
 
-// Nobody is told how far a migration is.
-#[derive(Drop)]
-struct Untold;
-
-impl Watch for Untold {
-    fn moved(&mut self, _: Table, _: u64, _: u64) {}
-}
-
 /// Opens the index that the disk keeps for the network. One of format 1 becomes one of format 2 first, with
-/// 2^bits buckets; one of format 2 keeps its own. A disk that was never written is an index of no blocks.
+/// 2^bits buckets, and who watches is told how far that is; one of format 2 keeps its own. A disk that was
+/// never written is an index of no blocks.
 ///
 /// # Errors
 ///
 /// How the program then ends, with the disk: `BadIndex` where what is on it is no index of the network,
 /// `DiskFailed` where a call of it failed, `OutOfMemory`.
-pub fn open_index<D: Disk, N: NetworkMagic>(
+pub fn open_index<D: Disk, N: NetworkMagic, V: Watch>(
     alloc: Global,
     disk: D,
     bits: u32,
+    watch: &mut V,
 ) -> Result<Index<Pages<D, N>>, (Status, D)>
     requires least { MIN_HEAD_BITS ≤ bits }
     requires most { bits ≤ MAX_HEAD_BITS }
@@ -85,7 +78,7 @@ pub fn open_index<D: Disk, N: NetworkMagic>(
     ensures others_uncounted { IfErr result (λ e. e.0 ≢ Status.DiskFailed
         → D.faults e.1 ≡ D.faults disk) }
 {
-    let store = match open_any::<D, N, Untold>(alloc, disk, bits, &mut Untold) {
+    let store = match open_any::<D, N, V>(alloc, disk, bits, watch) {
         Ok(store) => store,
         Err((fault, disk)) => return Err((status_of(fault), disk)),
     };

@@ -129,6 +129,26 @@ fn tree_of_chain(
     }
 }
 
+// The tree of the headers of the block files alone, unless these are of another chain than the index's.
+fn tree_of_scan(alloc: Global, index: Vec<Node>, found: Vec<Node>) -> Result<HeaderTree, StartFault>
+    requires { AllByRecursion IsNode found.items }
+    ensures tree { IfOk result (λ tree. (tree ≡ all_added [] found.items)
+        × (other.is_other_chain index.items found.items ≡ false)) }
+    ensures other { IsErrOf result StartFault.OtherChain
+        → other.is_other_chain index.items found.items ≡ true }
+    ensures no_disk { result ≢ Err StartFault.DiskFailed }
+    ensures no_archive { result ≢ Err StartFault.ArchiveFailed }
+{
+    let is_other = is_other_chain(index.as_slice(), found.as_slice());
+    if is_other {
+        return Err(StartFault::OtherChain);
+    }
+    match tree_of(alloc, &[], found.as_slice()) {
+        Ok(tree) => Ok(tree),
+        Err(_) => Err(StartFault::Memory),
+    }
+}
+
 /// What is computed once of the ledger's chain.
 pub fn caches_of<G: Ledger>(alloc: Global, ledger: &mut G) -> Result<Caches, QueryFault>
     requires live { G.is_live ledger.old }
@@ -182,6 +202,42 @@ pub fn open_headers<G: Ledger, A: Archive>(
     };
     match tree_of_chain(alloc, index, found) {
         Ok(tree) => Ok((tree, caches)),
+        Err(fault) => Err(fault),
+    }
+}
+
+/// The tree of the headers that a scan of all block files finds, and of no others, unless these are of
+/// another chain than the ledger's.
+pub fn scan_headers<G: Ledger, A: Archive>(
+    alloc: Global,
+    ledger: &mut G,
+    archive: &mut A,
+    magic: [u8; 4],
+) -> Result<HeaderTree, StartFault>
+    requires live { G.is_live ledger.old }
+    ensures opened { (index : IndexChain) → (index.sure ≡ true → G.stands ledger.old index.chain)
+        → IfOk result (λ tree. (headers nodes : List shape.Node) × AreHeaders index headers
+        × IsScanned ⟦<A as Archive>⟧ magic archive.old archive.new nodes
+        × (tree ≡ all_added [] nodes)
+        × (other.is_other_chain headers nodes ≡ false)) }
+    ensures other { (index : IndexChain) → (index.sure ≡ true → G.stands ledger.old index.chain)
+        → IsErrOf result StartFault.OtherChain
+        → IsOtherChain ⟦<A as Archive>⟧ magic index archive.old archive.new }
+    ensures quiet { Asked ⟦<G as Ledger>⟧ ledger.old ledger.new }
+    ensures cause { CountsOnly (G.faults ledger.old) (G.faults ledger.new) StartFault.DiskFailed result }
+    ensures only_reads { OnlyReads A.tells (A.bytes archive.old) (A.bytes archive.new)
+        (A.faults archive.old) (A.faults archive.new) StartFault.ArchiveFailed result }
+{
+    let index = match nodes_of(alloc, ledger) {
+        Ok(index) => index,
+        Err(fault) => return Err(index_fault_of(fault)),
+    };
+    let found = match scan_all(alloc, archive, magic) {
+        Ok(found) => found,
+        Err(fault) => return Err(start_fault_of(fault)),
+    };
+    match tree_of_scan(alloc, index, found) {
+        Ok(tree) => Ok(tree),
         Err(fault) => Err(fault),
     }
 }

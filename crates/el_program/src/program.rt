@@ -4,7 +4,7 @@ ghost use Rattle.std.specs.Process.{exit_status};
 ghost use Rattle.el_words.specs.Options.{Word};
 ghost use Rattle.el_words.specs.Words.{texts};
 ghost use Rattle.el_words.specs.Commands.{IsNoCommand};
-ghost use Rattle.el_program.specs.within.Devices.{folder_of, index_of, ports_of, IsServeCommand, IsOnceCommand, IsCheckCommand};
+ghost use Rattle.el_program.specs.within.Devices.{folder_of, relay_of, index_of, ports_of, IsServeCommand, IsStreamsCommand, IsAuditCommand, IsCheckCommand};
 ghost use Rattle.el_program.specs.Calls.{Call};
 ghost use Rattle.el_program.specs.AnyCall.{IsCall};
 ghost use Rattle.el_program.specs.Lives.{IsFresh};
@@ -14,16 +14,18 @@ ghost use Rattle.el_program.specs.Statuses.{code_of};
 use crate::failures::{Failing, tell_cause, tell_commands};
 use crate::serving::serve;
 use crate::status::Status;
+use crate::telling::{Progress, Untold};
 use el_base::OutOfMemory;
 use el_mem_disk::{FailingCalls, MemDisk, Residue};
 use el_net::{
-    BlockFiles, BlockFolder, IndexFolder, NoDisk, NoFiles, NoLink, StandardLink, TcpLink,
+    BlockFiles, BlockFolder, IndexFolder, NoDisk, NoFiles, NoLink, NoRelay, StandardLink, TcpLink,
     index_files,
 };
 use el_open_files::FileDisk;
 use el_outside::{Disk, Link, NoPace};
+use el_relay_folder::{DirRelay, RelayFolder};
 use el_sockets::Ports;
-use el_words::{Command, read_words};
+use el_words::{Command, ServeWords, read_words};
 use std::alloc::Global;
 use std::process::ExitCode;
 use std::thread::Threads;
@@ -52,7 +54,8 @@ fn words_of(rt: &HostRuntime) -> Result<Vec<String>, OutOfMemory> {
     }
 }
 
-// The block files that the command asks for: those of its folder. `check-chain` asks for none.
+// The block files that the command asks for: those of its folder. `check-chain` and `prove-check` ask for
+// none.
 fn files_of(
     rt: HostRuntime,
     alloc: Global,
@@ -62,13 +65,33 @@ fn files_of(
 {
     let folder = match command {
         Command::Serve(said) => said.blocks.as_str(),
-        Command::Once { blocks, .. } => blocks.as_str(),
-        Command::CheckChain { .. } => "",
+        Command::Once { blocks, .. } | Command::Audit { blocks, .. } => blocks.as_str(),
+        Command::CheckChain { .. } | Command::ProveCheck(_) => "",
     };
     BlockFiles::new(rt, alloc, folder)
 }
 
-// The index that the command asks for: the files of its folder. Only `serve` asks for one.
+// The relay that the command asks for: its folder. Where it asks for none, no call of it is made.
+fn relay_of(
+    rt: HostRuntime,
+    alloc: Global,
+    command: &Command,
+) -> Result<DirRelay<RelayFolder<HostRuntime>>, OutOfMemory>
+    ensures { IfOk result (λ relay. (relay.outbox ≡ relay_of command.now) × (relay.faults ≡ 0)) }
+{
+    let folder = match command {
+        Command::Serve(
+            ServeWords {
+                relay: Some(folder),
+                ..
+            },
+        ) => folder.as_str(),
+        _ => "",
+    };
+    Ok(DirRelay::over(alloc, RelayFolder::new(rt, alloc, folder)?))
+}
+
+// The index that the command asks for: the files of its folder. Only `serve` and `audit` ask for one.
 fn disk_of(
     rt: HostRuntime,
     alloc: Global,
@@ -78,7 +101,8 @@ fn disk_of(
 {
     let folder = match command {
         Command::Serve(said) => said.index.as_str(),
-        Command::Once { .. } | Command::CheckChain { .. } => "",
+        Command::Audit { index, .. } => index.as_str(),
+        Command::Once { .. } | Command::CheckChain { .. } | Command::ProveCheck(_) => "",
     };
     index_files(rt, alloc, folder)
 }
@@ -93,25 +117,32 @@ fn serve_over<W: Threads + Sync, D: Disk + Failing + Drop, K: Link + Failing>(
     disk: D,
     link: &mut K,
 ) -> Result<Status, OutOfMemory>
-    ensures ends { IfOk result (λ status. (c : Call _ _ _)
-        × IsCall ⟦<D as Disk>⟧ ⟦<BlockFiles<BlockFolder<HostRuntime>> as el_outside::Archive>⟧ ⟦<K as Link>⟧ c
+    ensures ends { IfOk result (λ status. (c : Call _ _ _ _)
+        × IsCall ⟦<D as Disk>⟧ ⟦<BlockFiles<BlockFolder<HostRuntime>> as el_outside::Archive>⟧
+        ⟦<DirRelay<RelayFolder<HostRuntime>> as el_outside::Relay>⟧ ⟦<K as Link>⟧ c
         × (c.words ≡ texts words.now) × (c.turns ≡ 2 ^ 64 - 1) × (c.before.disk ≡ disk)
         × (c.before.files.folder ≡ folder_of command.now)
-        × (c.before.link ≡ link.old) × (c.after.link ≡ link.new) × (c.status ≡ status)) }
+        × (c.before.link ≡ link.old) × (c.after.link ≡ link.new)
+        × (c.before.relay.outbox ≡ relay_of command.now) × (c.status ≡ status)) }
     ensures refused { IsNoCommand (texts words.now) → IfOk result (λ status. status ≡ Status.Usage) }
     ensures lawful { IfOk result (λ status. status ≡ Status.Usage → IsNoCommand (texts words.now)) }
 {
     let mut archive = files_of(rt.clone()?, rt.alloc(), command)?;
+    let mut relay = relay_of(rt.clone()?, rt.alloc(), command)?;
+    let mut progress = Progress::new(rt.clone()?);
     let (status, disk) = serve(
         threads,
         rt.alloc(),
         words,
         disk,
         &mut archive,
+        &mut relay,
         link,
         &NoPace,
+        &mut progress,
         TURNS,
     );
+    relay.tell_failure(rt);
     tell_cause(rt, status, &disk, &archive, &*link);
     Ok(status)
 }
@@ -130,7 +161,10 @@ fn start_line(alloc: Global, command: &Command) -> Result<String, OutOfMemory> {
                  clients on port {client_port}, node on port {node_port}\n"
             )?)
         }
-        Command::Once { .. } | Command::CheckChain { .. } => Ok(String::new(alloc)),
+        Command::Once { .. }
+        | Command::CheckChain { .. }
+        | Command::Audit { .. }
+        | Command::ProveCheck(_) => Ok(String::new(alloc)),
     }
 }
 
@@ -154,8 +188,8 @@ fn serve_fresh<W: Threads + Sync>(
     threads: &W,
     words: &[String],
 ) -> Result<Status, OutOfMemory>
-    ensures ends { IfOk result (λ status. (c : Call _ _ _)
-        × IsCall ⟦<MemDisk as Disk>⟧ ⟦<NoFiles as el_outside::Archive>⟧
+    ensures ends { IfOk result (λ status. (c : Call _ _ _ _)
+        × IsCall ⟦<MemDisk as Disk>⟧ ⟦<NoFiles as el_outside::Archive>⟧ ⟦<NoRelay as el_outside::Relay>⟧
         ⟦<StandardLink<HostRuntime> as Link>⟧ c
         × (c.words ≡ texts words.now) × (c.turns ≡ 2 ^ 64 - 1) × IsFresh ⟦<MemDisk as Disk>⟧ c.before.disk
         × (c.status ≡ status)) }
@@ -169,34 +203,46 @@ fn serve_fresh<W: Threads + Sync>(
         words,
         fresh_disk(rt.alloc()),
         &mut NoFiles::new(),
+        &mut NoRelay::new(),
         &mut link,
         &NoPace,
+        &mut Untold,
         TURNS,
     );
     Ok(status)
 }
 
 // Serves the command of these words over its devices: for `serve` the files of its index and two ports, for
-// `once` the standard streams, for `check-chain` a disk in memory and the standard streams.
+// `audit` those files and the standard streams, for `once` and `prove-check` the standard streams, for
+// `check-chain` a disk in memory and the standard streams.
 fn serve_command<W: Threads + Sync>(
     rt: &HostRuntime,
     threads: &W,
     words: &[String],
     command: &Command,
 ) -> Result<Status, OutOfMemory>
-    ensures serve { IsServeCommand command.now → IfOk result (λ status. (c : Call _ _ _)
+    ensures serve { IsServeCommand command.now → IfOk result (λ status. (c : Call _ _ _ _)
         × IsCall ⟦<FileDisk<IndexFolder<HostRuntime>> as Disk>⟧
-        ⟦<BlockFiles<BlockFolder<HostRuntime>> as el_outside::Archive>⟧ ⟦<TcpLink<HostRuntime> as Link>⟧ c
+        ⟦<BlockFiles<BlockFolder<HostRuntime>> as el_outside::Archive>⟧
+        ⟦<DirRelay<RelayFolder<HostRuntime>> as el_outside::Relay>⟧ ⟦<TcpLink<HostRuntime> as Link>⟧ c
         × (c.words ≡ texts words.now) × (c.turns ≡ 2 ^ 64 - 1) × (c.before.disk.files ≡ index_of command.now)
         × (c.before.files.folder ≡ folder_of command.now) × (c.before.link.asked ≡ ports_of command.now)
-        × (c.status ≡ status)) }
-    ensures once { IsOnceCommand command.now → IfOk result (λ status. (c : Call _ _ _)
+        × (c.before.relay.outbox ≡ relay_of command.now) × (c.status ≡ status)) }
+    ensures streams { IsStreamsCommand command.now → IfOk result (λ status. (c : Call _ _ _ _)
         × IsCall ⟦<NoDisk as Disk>⟧ ⟦<BlockFiles<BlockFolder<HostRuntime>> as el_outside::Archive>⟧
+        ⟦<DirRelay<RelayFolder<HostRuntime>> as el_outside::Relay>⟧
         ⟦<StandardLink<HostRuntime> as Link>⟧ c
         × (c.words ≡ texts words.now) × (c.turns ≡ 2 ^ 64 - 1)
         × (c.before.files.folder ≡ folder_of command.now) × (c.status ≡ status)) }
-    ensures check { IsCheckCommand command.now → IfOk result (λ status. (c : Call _ _ _)
-        × IsCall ⟦<MemDisk as Disk>⟧ ⟦<NoFiles as el_outside::Archive>⟧
+    ensures audit { IsAuditCommand command.now → IfOk result (λ status. (c : Call _ _ _ _)
+        × IsCall ⟦<FileDisk<IndexFolder<HostRuntime>> as Disk>⟧
+        ⟦<BlockFiles<BlockFolder<HostRuntime>> as el_outside::Archive>⟧
+        ⟦<DirRelay<RelayFolder<HostRuntime>> as el_outside::Relay>⟧
+        ⟦<StandardLink<HostRuntime> as Link>⟧ c
+        × (c.words ≡ texts words.now) × (c.turns ≡ 2 ^ 64 - 1) × (c.before.disk.files ≡ index_of command.now)
+        × (c.before.files.folder ≡ folder_of command.now) × (c.status ≡ status)) }
+    ensures check { IsCheckCommand command.now → IfOk result (λ status. (c : Call _ _ _ _)
+        × IsCall ⟦<MemDisk as Disk>⟧ ⟦<NoFiles as el_outside::Archive>⟧ ⟦<NoRelay as el_outside::Relay>⟧
         ⟦<StandardLink<HostRuntime> as Link>⟧ c
         × (c.words ≡ texts words.now) × (c.turns ≡ 2 ^ 64 - 1) × IsFresh ⟦<MemDisk as Disk>⟧ c.before.disk
         × (c.status ≡ status)) }
@@ -214,7 +260,12 @@ fn serve_command<W: Threads + Sync>(
             let mut link = TcpLink::new(rt.clone()?, rt.alloc(), ports, line)?;
             serve_over(rt, threads, words, command, disk, &mut link)
         }
-        Command::Once { .. } => {
+        Command::Audit { .. } => {
+            let disk = disk_of(rt.clone()?, rt.alloc(), command)?;
+            let mut link = StandardLink::new(rt.clone()?);
+            serve_over(rt, threads, words, command, disk, &mut link)
+        }
+        Command::Once { .. } | Command::ProveCheck(_) => {
             let mut link = StandardLink::new(rt.clone()?);
             serve_over(rt, threads, words, command, NoDisk::new(), &mut link)
         }
@@ -233,8 +284,10 @@ fn serve_nobody<W: Threads + Sync>(rt: &HostRuntime, threads: &W, words: &[Strin
         words,
         NoDisk::new(),
         &mut NoFiles::new(),
+        &mut NoRelay::new(),
         &mut NoLink { calls: 0 },
         &NoPace,
+        &mut Untold,
         TURNS,
     );
     status
@@ -248,9 +301,10 @@ fn serve_words<W: Threads + Sync>(
 ) -> Result<Status, OutOfMemory>
     ensures serving { IfOk result (λ status.
         IsServing ⟦<FileDisk<IndexFolder<HostRuntime>> as Disk>⟧ ⟦<NoDisk as Disk>⟧
-        ⟦<BlockFiles<BlockFolder<HostRuntime>> as el_outside::Archive>⟧ ⟦<TcpLink<HostRuntime> as Link>⟧
+        ⟦<BlockFiles<BlockFolder<HostRuntime>> as el_outside::Archive>⟧
+        ⟦<DirRelay<RelayFolder<HostRuntime>> as el_outside::Relay>⟧ ⟦<TcpLink<HostRuntime> as Link>⟧
         ⟦<StandardLink<HostRuntime> as Link>⟧ (texts words.now) status
-        ⊎ IsChecking ⟦<MemDisk as Disk>⟧ ⟦<NoFiles as el_outside::Archive>⟧
+        ⊎ IsChecking ⟦<MemDisk as Disk>⟧ ⟦<NoFiles as el_outside::Archive>⟧ ⟦<NoRelay as el_outside::Relay>⟧
         ⟦<StandardLink<HostRuntime> as Link>⟧ (texts words.now) status) }
     ensures refused { IsNoCommand (texts words.now) → IfOk result (λ status. status ≡ Status.Usage) }
     ensures lawful { IfOk result (λ status. status ≡ Status.Usage → IsNoCommand (texts words.now)) }
@@ -270,9 +324,10 @@ fn serve_words<W: Threads + Sync>(
 pub fn serve_all<W: Threads + Sync>(rt: &HostRuntime, threads: &W) -> Status
     ensures { (result ≡ Status.OutOfMemory) ⊎ ((words : List Word)
         × (IsServing ⟦<FileDisk<IndexFolder<HostRuntime>> as Disk>⟧ ⟦<NoDisk as Disk>⟧
-        ⟦<BlockFiles<BlockFolder<HostRuntime>> as el_outside::Archive>⟧ ⟦<TcpLink<HostRuntime> as Link>⟧
+        ⟦<BlockFiles<BlockFolder<HostRuntime>> as el_outside::Archive>⟧
+        ⟦<DirRelay<RelayFolder<HostRuntime>> as el_outside::Relay>⟧ ⟦<TcpLink<HostRuntime> as Link>⟧
         ⟦<StandardLink<HostRuntime> as Link>⟧ words result
-        ⊎ IsChecking ⟦<MemDisk as Disk>⟧ ⟦<NoFiles as el_outside::Archive>⟧
+        ⊎ IsChecking ⟦<MemDisk as Disk>⟧ ⟦<NoFiles as el_outside::Archive>⟧ ⟦<NoRelay as el_outside::Relay>⟧
         ⟦<StandardLink<HostRuntime> as Link>⟧ words result)) }
 {
     match words_of(rt) {

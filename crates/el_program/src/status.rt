@@ -27,6 +27,10 @@ pub enum Status {
     OtherChain,
     /// File 0 is no chain.
     BadChain,
+    /// An audit found that the index or the block files are not as they should be.
+    AuditDiffers,
+    /// An audit found more bytes of blocks than it takes.
+    AuditTooLarge,
 }
 
 impl Status {
@@ -58,6 +62,8 @@ impl Status {
             Status::TurnsSpent => 8,
             Status::OtherChain => 9,
             Status::BadChain => 10,
+            Status::AuditDiffers => 11,
+            Status::AuditTooLarge => 12,
         }
     }
 
@@ -76,6 +82,8 @@ impl Status {
             Status::TurnsSpent => "electrum_serve: turns spent\n",
             Status::OtherChain => "electrum_serve: other chain\n",
             Status::BadChain => "electrum_serve: bad chain\n",
+            Status::AuditDiffers => "electrum_serve: audit differs\n",
+            Status::AuditTooLarge => "electrum_serve: audit too large\n",
         }
     }
 }

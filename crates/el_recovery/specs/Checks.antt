@@ -32,14 +32,15 @@ bad_index found = fault.BadIndex found.0 found.1 found.2
 abbrev pub NoneWaits : List ℕ → Type 0
 NoneWaits file = (length file < 2) ⊎ IsClosed file
 
--- the gate is open
+-- the gate of a redo file is open: its first byte is 1, and there is one more at least
 abbrev pub IsOpen : List ℕ → Type 0
 IsOpen file = (rest : List ℕ) × (file ≡ 1 ∷ rest) × (2 ≤ length file)
 
--- the length that stands behind the gate, and the bytes of a body of that length
+-- the length of the body, as it stands in the eight bytes behind the gate
 abbrev pub length_told : List ℕ → ℕ
 length_told file = from_le_bytes w64 (take 8 (drop 1 file))
 
+-- the bytes after these nine, as many as the length says, or all where there are fewer
 abbrev pub body_told : List ℕ → List ℕ
 body_told file = take (length_told file) (drop 9 file)
 
@@ -141,7 +142,7 @@ count_told l file t = from_le_bytes w64 (take 8 (drop (l.meta - 64 + 8 * (number
 abbrev pub bits_told : List ℕ → ℕ
 bits_told file = word file 12
 
--- so many bits the number of a bucket may have
+-- the number of a bucket may have so many bits
 abbrev pub HasBits : ℕ → Type 0
 HasBits bits = (MIN_HEAD_BITS ≤ bits) × (bits ≤ MAX_HEAD_BITS)
 
@@ -149,15 +150,15 @@ HasBits bits = (MIN_HEAD_BITS ≤ bits) × (bits ≤ MAX_HEAD_BITS)
 abbrev pub HasHeads : ℕ → (Table → ℕ) → Type 0
 HasHeads bits counts = (counts table.TxHeads ≡ 2 ^ bits) × (counts table.ScriptHeads ≡ 2 ^ bits)
 
--- the meta file begins with the letters `ELIX`, the format, the network's magic, and a number of bits that may
--- be
+-- the meta file begins with the letters `ELIX`, the format, the network's magic, and a number of bits that
+-- may be
 pub record IsHead (l : Layout) (magic : ℕ) (file : List ℕ) : Type 0 where
   pub letters : word file 0 ≡ LETTERS
   pub format : word file 4 ≡ l.format
   pub network : word file 8 ≡ magic
   pub bits : HasBits (bits_told file)
 
--- or with something else
+-- The meta file begins otherwise: this was wanted, and this was found, of the first that is wrong.
 abbrev pub IsBadHead : Layout → ℕ → List ℕ → Found → Type 0
 IsBadHead l magic file found = ((word file 0 ≢ LETTERS) × (found ≡ (l.first, LETTERS, word file 0)))
     ⊎ ((word file 0 ≡ LETTERS) × (((word file 4 ≢ l.format) × (found ≡ (l.first, l.format, word file 4)))
@@ -211,8 +212,8 @@ IsBadFiles l magic file size found =
 abbrev pub sizes_in : Layout → Image → Table → ℕ
 sizes_in l files t = length (files (file_of l t))
 
--- The image stands for the tables in an index of the network with that magic, and each table of heads has a row
--- for each bucket: an opening takes it.
+-- The image stands for the tables in an index of the network with that magic, and each table of heads has a
+-- row for each bucket: an opening takes it.
 pub record IsIndex (magic : List ℕ) (image : Image) (tables : Tables) : Type 0 where
   pub bits : ℕ
   pub may_be : HasBits bits

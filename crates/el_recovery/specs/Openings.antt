@@ -12,7 +12,7 @@ abbrev pub disk_in : {D N : Type 0} {G : disk.Ghosts D} {H : network.Ghosts N}
 disk_in (Ok store) = disk_below store
 disk_in (Err refused) = refused.1
 
--- the same without the disk: the store, or the fault
+-- the store or the fault that an opening gives, without the disk
 abbrev pub opened : {D N : Type 0} {G : disk.Ghosts D} {H : network.Ghosts N}
     → Result (Pages D N G H) (OpenFault × D) → Result (Pages D N G H) OpenFault
 opened (Ok store) = Ok store

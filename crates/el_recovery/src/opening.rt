@@ -34,7 +34,8 @@ use std::alloc::Global;
 ///
 /// # Errors
 ///
-/// The disk failed, or the body is bad: `BadIndex` tells the first check that failed, and nothing was changed.
+/// The disk failed, or the body is bad: `BadIndex` tells the first check that failed, and nothing was
+/// changed.
 pub fn finish<D: Disk>(disk: &mut D, layout: &Layout) -> Result<(), OpenFault>
     requires few { layout.now.first + 9 < 4294967296 }
     requires narrow { (t : Table) → size_in layout.now t ≤ 256 }
@@ -121,9 +122,9 @@ fn settle<D: Disk>(disk: &mut D, magic: [u8; 4]) -> Result<MetaRow, OpenFault>
 }
 
 /// Opens the store that the files of a disk keep in format 2 for the network that the type names. Format 2 is
-/// live in each image that a crash may leave of it. The disk may be as a crash left it: what a commit that was
-/// cut off left to do is done. The opening may be stopped at any call, and the disk opened again. The memory
-/// that it takes is the store's: a buffer and a cache, once the files are checked.
+/// live in each image that a crash may leave of it. The disk may be as a crash left it: what a commit that
+/// was cut off left to do is done. The opening may be stopped at any call, and the disk opened again. The
+/// memory that it takes is the store's: a buffer and a cache, once the files are checked.
 ///
 /// # Errors
 ///

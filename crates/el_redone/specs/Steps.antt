@@ -10,7 +10,8 @@ use Rattle.el_redone.specs.declared.steps.TheConstants.{ROOT}
 abbrev pub EachNow : {D : Type 0} → disk.Ghosts D → (Image → Type 0) → D → Type 0
 EachNow G P d = (c : Image) → LeftNow G.moment G.left_since d c → P c
 
--- so has each that a crash since then may leave
+-- Each image that a crash since `old` may leave has P; one that a crash since an earlier moment may leave has
+-- it or could be left before.
 abbrev pub Leaves : {D : Type 0} → disk.Ghosts D → (Image → Type 0) → D → D → Type 0
 Leaves G P old new = LeavesOnly G.moment G.left_since old new P
 

@@ -53,10 +53,10 @@ fn begin_files<D: Disk>(disk: &mut D, span: Span) -> Result<(), DiskFailed>
     begin_redo(disk, span)
 }
 
-/// The start of an opening: brings the root and all files to the disk, and gives a redo file of fewer than two
-/// bytes one byte 0, synced. Each image that a crash since then may leave is one that it might have left
-/// before, but for a redo file that has fewer than two bytes in both. A call of the disk for each file, and at
-/// most five more.
+/// The start of an opening: brings the root and all files to the disk, and gives a redo file of fewer than
+/// two bytes one byte 0, synced. Each image that a crash since then may leave is one that it might have left
+/// before, but for a redo file that has fewer than two bytes in both. A call of the disk for each file, and
+/// at most five more.
 ///
 /// # Errors
 ///

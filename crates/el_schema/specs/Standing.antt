@@ -8,8 +8,8 @@ use Rattle.el_row_formats.specs.Tables as held
 use Rattle.el_row_formats.specs.declared.table.Table.TheVariants as table
 use Rattle.el_schema.specs.Rows.{Encode, Hold}
 
--- The rows of bytes are those of tables that stand for the chain. Each table of heads has so many rows, also on
--- no blocks, and the bucket of a hash is its number modulo them.
+-- The rows of bytes are those of tables that stand for the chain. Each table of heads has so many rows, also
+-- on no blocks, and the bucket of a hash is its number modulo them.
 pub record StandWith (heads : ℕ) (rows : held.Tables) (chain : Chain) : Type 0 where
   pub some : 0 < heads
   pub tables : typed.Tables

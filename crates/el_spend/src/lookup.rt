@@ -130,8 +130,8 @@ pub(crate) fn found_output<R: Rows>(
     Ok(Some(NamedOutput { number: k, row }))
 }
 
-// The number of the output that the txid and the index name among the transactions below that number. A link to
-// an older transaction that isn't below its own is none.
+// The number of the output that the txid and the index name among the transactions below that number. A link
+// to an older transaction that isn't below its own is none.
 fn output_number<R: Rows>(
     t: &mut Txn<'_, R>,
     txid: &Hash32,

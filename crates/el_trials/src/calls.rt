@@ -3,10 +3,10 @@ use crate::block_files::{Files, files_of};
 use crate::bringing::{Step, coming, transcript};
 use crate::names::named;
 use el_base::Bytes;
-use el_fakes::{Coming, MemArchive, MemLink, SteadyArchive, SteadyLink};
+use el_fakes::{Coming, MemArchive, MemLink, MemRelay, SteadyArchive, SteadyLink};
 use el_mem_disk::{FailingCalls, MemDisk, Residue};
-use el_outside::{Archive, Disk, Link, NoPace, Pace};
-use el_program::{Status, serve};
+use el_outside::{Archive, Disk, Link, NoPace, Pace, Relay};
+use el_program::{Status, Untold, serve};
 use std::alloc::{AllocError, Global};
 use std::test::Fail;
 use std::thread::Threads;
@@ -51,13 +51,24 @@ pub fn words_of(alloc: Global, text: &str) -> Result<Vec<String>, AllocError> {
     Ok(all)
 }
 
-/// Calls `serve` with the words of the text, at this pace.
-pub fn serve_at<W: Threads + Sync, D: Disk + Drop, A: Archive, K: Link>(
+/// A relay of which these calls fail, and these refuse.
+pub fn relay_with(
+    alloc: Global,
+    failing: &[u64],
+    refusing: &[u64],
+) -> Result<MemRelay, AllocError> {
+    let failing = Vec::from_slice(alloc, failing)?;
+    Ok(MemRelay::new(alloc, failing, Vec::from_slice(alloc, refusing)?))
+}
+
+/// Calls `serve` with the words of the text, over this relay, at this pace.
+pub fn serve_by<W: Threads + Sync, D: Disk + Drop, A: Archive, Y: Relay, K: Link>(
     rt: &W,
     alloc: Global,
     words: &str,
     disk: D,
     archive: &mut A,
+    relay: &mut Y,
     link: &mut K,
     pace: &(dyn Pace + Sync),
     turns: u64,
@@ -69,10 +80,29 @@ pub fn serve_at<W: Threads + Sync, D: Disk + Drop, A: Archive, K: Link>(
         words.as_slice(),
         disk,
         archive,
+        relay,
         link,
         pace,
+        &mut Untold,
         turns,
     ))
+}
+
+/// Calls `serve` with the words of the text, at this pace.
+pub fn serve_at<W: Threads + Sync, D: Disk + Drop, A: Archive, K: Link>(
+    rt: &W,
+    alloc: Global,
+    words: &str,
+    disk: D,
+    archive: &mut A,
+    link: &mut K,
+    pace: &(dyn Pace + Sync),
+    turns: u64,
+) -> Result<(Status, D), AllocError> {
+    let mut relay = relay_with(alloc, &[], &[])?;
+    serve_by(
+        rt, alloc, words, disk, archive, &mut relay, link, pace, turns,
+    )
 }
 
 /// Calls `serve` with the words of the text.

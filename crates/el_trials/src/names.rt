@@ -21,6 +21,7 @@ const NAMES: &str = "\
     {asks-balance} {\"id\":1,\"method\":\"blockchain.scripthash.get_balance\",\"params\":[\"\n\
     {asks-mempool} {\"id\":1,\"method\":\"blockchain.scripthash.get_mempool\",\"params\":[\"\n\
     {subscribes} {\"id\":1,\"method\":\"blockchain.scripthash.subscribe\",\"params\":[\"\n\
+    {sends} {\"id\":1,\"method\":\"blockchain.transaction.broadcast\",\"params\":[\"\n\
     {gets} {\"id\":1,\"method\":\"blockchain.transaction.get\",\"params\":[\"\n\
     {none} {lists}{listed}\n\
     {lists} {\"id\":1,\"jsonrpc\":\"2.0\",\"result\":[\n\
@@ -34,6 +35,11 @@ const NAMES: &str = "\
     {index-failed} \
     {\"error\":{\"code\":3,\"message\":\"index device failed\"},\"id\":1,\"jsonrpc\":\"2.0\"}\n\
     {too-many} {\"error\":{\"code\":1,\"message\":\"too many subscriptions\"},\"id\":1,\"jsonrpc\":\"2.0\"}\n\
+    {no-relay} {\"error\":{\"code\":2,\"message\":\"no relay\"},\"id\":1,\"jsonrpc\":\"2.0\"}\n\
+    {no-transaction} {\"error\":{\"code\":1,\"message\":\"not a transaction\"},\"id\":1,\"jsonrpc\":\"2.0\"}\n\
+    {no-coinbase} {\"error\":{\"code\":1,\"message\":\"coinbase not relayed\"},\"id\":1,\"jsonrpc\":\"2.0\"}\n\
+    {relay-refuses} {\"error\":{\"code\":1,\"message\":\"refused by relay\"},\"id\":1,\"jsonrpc\":\"2.0\"}\n\
+    {relay-failed} {\"error\":{\"code\":6,\"message\":\"relay failed\"},\"id\":1,\"jsonrpc\":\"2.0\"}\n\
     {gives} {\"id\":1,\"jsonrpc\":\"2.0\",\"result\":\"\n\
     {given} \"}\n\
     {heads} {\"id\":1,\"method\":\"blockchain.headers.subscribe\"}\n\

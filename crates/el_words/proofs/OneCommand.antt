@@ -1,17 +1,20 @@
 -- Words are those of one command.
-use Rattle.std.proofs.Common.{◌≡◌, ◌∙◌, ℕ, List, ◌∷◌, Option, Some, None, codes, refl, sym, ap, ap₂, subst, drop, IsSomeAnd}
+use Rattle.std.proofs.Common.{◌≡◌, ◌∙◌, ℕ, List, [], ◌∷◌, slice_index_or, arith, Bool, Option, Some, None, is_some, codes, refl, sym, ap, ap₂, subst, drop, IsSomeAnd}
 use Rattle.std.specs.Str.Parse.{digits_value}
 use Rattle.el_words.specs.Options.{Word, Given, words_of, value_of}
-use Rattle.el_words.specs.Words.{IsOnceOf, IsServeOf, IsCheckOf, IsPort, IsLimit, IsHeadBits, network_name}
+use Rattle.el_words.specs.Words.{IsOnceOf, IsServeOf, IsCheckOf, IsAuditOf, IsPort, IsLimit, IsHeadBits, network_name}
+use Rattle.el_words.specs.Proofs.{IsProofOf}
 use Rattle.el_words.specs.Commands.{IsCommand, IsNoCommand}
 use Rattle.el_mempool.specs.declared.entry.PoolLimits.{PoolLimits}
 use Rattle.el_words.specs.declared.words.ServeSettings.{ServeSettings}
 use Rattle.el_words.specs.declared.words.ServeWords.{ServeWords}
+use Rattle.el_words.specs.declared.words.ProofWords.{ProofWords}
 use Rattle.el_words.specs.declared.words.Command.{Command}
 use Rattle.el_words.specs.declared.words.Command.TheVariants as command
 use Rattle.el_words.specs.declared.words.Network.{Network}
 use Rattle.el_words.specs.declared.words.Network.TheVariants as network
 use Rattle.el_words.proofs.OptionLemmas.{one_given}
+use Rattle.el_words.proofs.ProofLemmas.{one_proof}
 
 -- a name is that of one network
 same_name : (a b : Network) → network_name a ≡ network_name b → a ≡ b
@@ -54,25 +57,31 @@ one_head_bits None is other = is ∙ sym other
 one_head_bits (Some text) is other = is.0.number.value ∙ sym other.0.number.value
 
 -- what says the same is the same
-settings_are : (m n : Network) (c c' p p' : ℕ) (l l' : PoolLimits) (h h' : ℕ) → m ≡ n → c ≡ c' → p ≡ p' → l ≡ l' → h ≡ h'
-    → ◌≡◌ {A = ServeSettings} (record { network = m; client_port = c; node_port = p; limits = l; head_bits = h })
-    (record { network = n; client_port = c'; node_port = p'; limits = l'; head_bits = h' })
-settings_are m n c c' p p' l l' h h' e1 e2 e3 e4 e5 = cc
+settings_are : (m n : Network) (c c' p p' : ℕ) (l l' : PoolLimits) (h h' : ℕ) (r r' : Bool)
+    → m ≡ n → c ≡ c' → p ≡ p' → l ≡ l' → h ≡ h' → r ≡ r'
+    → ◌≡◌ {A = ServeSettings}
+    (record { network = m; client_port = c; node_port = p; limits = l; head_bits = h; relays = r })
+    (record { network = n; client_port = c'; node_port = p'; limits = l'; head_bits = h'; relays = r' })
+settings_are m n c c' p p' l l' h h' r r' e1 e2 e3 e4 e5 e6 = cc
 
-words_are : (b b' i i' : Word) (s s' : ServeSettings) → b ≡ b' → i ≡ i' → s ≡ s'
-    → ◌≡◌ {A = ServeWords} (record { blocks = b; index = i; settings = s })
-    (record { blocks = b'; index = i'; settings = s' })
-words_are b b' i i' s s' e1 e2 e3 = cc
+words_are : (b b' i i' : Word) (r r' : Option Word) (s s' : ServeSettings) → b ≡ b' → i ≡ i' → r ≡ r' → s ≡ s'
+    → ◌≡◌ {A = ServeWords} (record { blocks = b; index = i; relay = r; settings = s })
+    (record { blocks = b'; index = i'; relay = r'; settings = s' })
+words_are b b' i i' r r' s s' e1 e2 e3 e4 = cc
 
 same_words : (s t : ServeWords) → s.blocks ≡ t.blocks → s.index ≡ t.index
     → s.settings.network ≡ t.settings.network → s.settings.client_port ≡ t.settings.client_port
     → s.settings.node_port ≡ t.settings.node_port → s.settings.limits ≡ t.settings.limits
-    → s.settings.head_bits ≡ t.settings.head_bits → s ≡ t
-same_words s t e1 e2 e3 e4 e5 e6 e7 =
-    words_are s.blocks t.blocks s.index t.index s.settings t.settings e1 e2
+    → s.settings.head_bits ≡ t.settings.head_bits → s.relay ≡ t.relay → s.settings.relays ≡ t.settings.relays → s ≡ t
+same_words s t e1 e2 e3 e4 e5 e6 e7 e8 e9 =
+    words_are s.blocks t.blocks s.index t.index s.relay t.relay s.settings t.settings e1 e2 e8
     (settings_are s.settings.network t.settings.network s.settings.client_port t.settings.client_port
     s.settings.node_port t.settings.node_port s.settings.limits t.settings.limits s.settings.head_bits t.settings.head_bits
-    e3 e4 e5 e6 e7)
+    s.settings.relays t.settings.relays e3 e4 e5 e6 e7 e9)
+
+-- the first letter of the first word, by which the commands differ
+abbrev letter : List Word → ℕ
+letter words = slice_index_or (slice_index_or words 0 []) 0 0
 
 pub one_command : (words : List Word) (one other : Command) → IsCommand words one → IsCommand words other
     → one ≡ other
@@ -99,7 +108,9 @@ one_command words (command.Serve s) (command.Serve s') a b =
     let e7 = one_head_bits (value_of (codes "--head-bits") b.given)
     (subst (λ t. IsHeadBits t s.settings.head_bits) (text (codes "--head-bits")) a.head_bits_are)
     b.head_bits_are in
-    ap command.Serve (same_words s s' e1 e2 e3 e4 e5 e6 e7)
+    let e8 : s.relay ≡ s'.relay = sym a.relay_is ∙ text (codes "--relay") ∙ b.relay_is in
+    let e9 : s.settings.relays ≡ s'.settings.relays = sym a.relays_are ∙ ap is_some e8 ∙ b.relays_are in
+    ap command.Serve (same_words s s' e1 e2 e3 e4 e5 e6 e7 e8 e9)
 one_command words (command.Serve s) (command.Once blocks' n) a b =
     absurd (let one = a.words_are in let other = b.words_are in cc)
 one_command words (command.Once blocks m) (command.Serve s') a b =
@@ -122,11 +133,54 @@ one_command words (command.CheckChain count) (command.CheckChain count') a b =
     let other = b.words_are in
     let same : a.number ≡ b.number = cc in
     ap command.CheckChain (a.shown.number.value ∙ ap (digits_value 10) same ∙ sym b.shown.number.value)
+one_command words (command.Serve s) (command.Audit blocks' index' n) a b =
+    absurd (let m = ap letter (sym a.words_are ∙ b.words_are) in omega arith)
+one_command words (command.Serve s) (command.ProveCheck said') a b =
+    absurd (let m = ap letter (sym a.words_are ∙ b.words_are) in omega arith)
+one_command words (command.Once blocks m) (command.Audit blocks' index' n) a b =
+    absurd (let m = ap letter (sym a.words_are ∙ b.words_are) in omega arith)
+one_command words (command.Once blocks m) (command.ProveCheck said') a b =
+    absurd (let m = ap letter (sym a.words_are ∙ b.words_are) in omega arith)
+one_command words (command.CheckChain count) (command.Audit blocks' index' n) a b =
+    absurd (let m = ap letter (sym a.words_are ∙ b.words_are) in omega arith)
+one_command words (command.CheckChain count) (command.ProveCheck said') a b =
+    absurd (let m = ap letter (sym a.words_are ∙ b.words_are) in omega arith)
+one_command words (command.Audit blocks index m) (command.Serve s') a b =
+    absurd (let m = ap letter (sym a.words_are ∙ b.words_are) in omega arith)
+one_command words (command.Audit blocks index m) (command.Once blocks' n) a b =
+    absurd (let m = ap letter (sym a.words_are ∙ b.words_are) in omega arith)
+one_command words (command.Audit blocks index m) (command.CheckChain count') a b =
+    absurd (let m = ap letter (sym a.words_are ∙ b.words_are) in omega arith)
+one_command words (command.Audit blocks index m) (command.Audit blocks' index' n) a b =
+    let same = one_rest a.words_are b.words_are in
+    let e1 = one_value (codes "--blocks") same a.blocks_is b.blocks_is in
+    let e2 = one_value (codes "--index") same a.index_is b.index_is in
+    let e3 = one_network same a.network_is b.network_is in
+    cc
+one_command words (command.Audit blocks index m) (command.ProveCheck said') a b =
+    absurd (let m = ap letter (sym a.words_are ∙ b.words_are) in omega arith)
+one_command words (command.ProveCheck said) (command.Serve s') a b =
+    absurd (let m = ap letter (sym a.words_are ∙ b.words_are) in omega arith)
+one_command words (command.ProveCheck said) (command.Once blocks' n) a b =
+    absurd (let m = ap letter (sym a.words_are ∙ b.words_are) in omega arith)
+one_command words (command.ProveCheck said) (command.CheckChain count') a b =
+    absurd (let m = ap letter (sym a.words_are ∙ b.words_are) in omega arith)
+one_command words (command.ProveCheck said) (command.Audit blocks' index' n) a b =
+    absurd (let m = ap letter (sym a.words_are ∙ b.words_are) in omega arith)
+one_command words (command.ProveCheck said) (command.ProveCheck said') a b =
+    ap command.ProveCheck (one_proof words said said' a b)
 
--- words of none of the three are those of no command
+-- words of none of the five are those of no command
 pub no_command : (words : List Word) → ((said : ServeWords) → IsServeOf words said → ⊥)
     → ((blocks : Word) (network : Network) → IsOnceOf words blocks network → ⊥)
-    → ((count : ℕ) → IsCheckOf words count → ⊥) → IsNoCommand words
-no_command words no_serve no_once no_check (command.Serve said) is = no_serve said is
-no_command words no_serve no_once no_check (command.Once blocks network) is = no_once blocks network is
-no_command words no_serve no_once no_check (command.CheckChain count) is = no_check count is
+    → ((count : ℕ) → IsCheckOf words count → ⊥)
+    → ((blocks index : Word) (network : Network) → IsAuditOf words blocks index network → ⊥)
+    → ((said : ProofWords) → IsProofOf words said → ⊥) → IsNoCommand words
+no_command words no_serve no_once no_check no_audit no_proof (command.Serve said) is = no_serve said is
+no_command words no_serve no_once no_check no_audit no_proof (command.Once blocks network) is =
+    no_once blocks network is
+no_command words no_serve no_once no_check no_audit no_proof (command.CheckChain count) is = no_check count is
+no_command words no_serve no_once no_check no_audit no_proof (command.Audit blocks index network) is =
+    no_audit blocks index network is
+no_command words no_serve no_once no_check no_audit no_proof (command.ProveCheck said) is =
+    no_proof said is

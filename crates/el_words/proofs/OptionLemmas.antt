@@ -5,7 +5,7 @@ use Rattle.std.specs.Str.{bytes_eq}
 use Rattle.std.proofs.lemmas.Bool.{false_from_ne_true}
 use Rattle.std.proofs.lemmas.Slice.Eq.{bytes_eq-Decides}
 use Rattle.el_words.specs.Options.{Word, Given, words_of, value_of, AreOptions}
-use Rattle.el_words.specs.Words.{once_options, serve_options}
+use Rattle.el_words.specs.Words.{once_options, audit_options, serve_options}
 
 -- words that differ are told apart
 pub told_apart : (a b : Word) → (a ≡ b → ⊥) → bytes_eq a b ≡ false
@@ -53,6 +53,21 @@ serve_gives given are = record { known = all given are.known; valued = are.value
         → AllByRecursion (λ o. Contains serve_options o.0) given
     all [] known = tt
     all (o ∷ more) known = (serve_has o.0 known.0, all more known.1)
+
+-- so are those of `audit`
+serve_has_audit : (option : Word) → Contains audit_options option → Contains serve_options option
+serve_has_audit option (zero, lt, is) = (0, omega arith, is)
+serve_has_audit option (suc zero, lt, is) = (1, omega arith, is)
+serve_has_audit option (suc (suc zero), lt, is) = (2, omega arith, is)
+serve_has_audit option (suc (suc (suc k)), lt, is) = absurd (omega (arith, lt))
+
+pub serve_gives_audit : (given : Given) → AreOptions audit_options given → AreOptions serve_options given
+serve_gives_audit given are = record { known = all given are.known; valued = are.valued; once = are.once }
+  where
+    all : (given : Given) → AllByRecursion (λ o. Contains audit_options o.0) given
+        → AllByRecursion (λ o. Contains serve_options o.0) given
+    all [] known = tt
+    all (o ∷ more) known = (serve_has_audit o.0 known.0, all more known.1)
 
 -- what holds of the value that is found
 pub found_from : {T : Type 0} (N : Type 0) {P Q : T → Type 0} (found : Option T) → MatchOption found N P

@@ -29,21 +29,22 @@ id_of o = drop 2 o
 -- a fact of each of the options
 each : (P : Word → Type 0) → P (codes "--blocks") → P (codes "--index") → P (codes "--network")
     → P (codes "--client-port") → P (codes "--node-port") → P (codes "--pool-count")
-    → P (codes "--pool-bytes") → P (codes "--head-bits")
+    → P (codes "--pool-bytes") → P (codes "--head-bits") → P (codes "--relay")
     → (o : Word) → Contains serve_options o → P o
-each P a b c d e f g h o (zero, lt, is) = subst P is a
-each P a b c d e f g h o (suc zero, lt, is) = subst P is b
-each P a b c d e f g h o (suc (suc zero), lt, is) = subst P is c
-each P a b c d e f g h o (suc (suc (suc zero)), lt, is) = subst P is d
-each P a b c d e f g h o (suc (suc (suc (suc zero))), lt, is) = subst P is e
-each P a b c d e f g h o (suc (suc (suc (suc (suc zero)))), lt, is) = subst P is f
-each P a b c d e f g h o (suc (suc (suc (suc (suc (suc zero))))), lt, is) = subst P is g
-each P a b c d e f g h o (suc (suc (suc (suc (suc (suc (suc zero)))))), lt, is) = subst P is h
-each P a b c d e f g h o (suc (suc (suc (suc (suc (suc (suc (suc k))))))), lt, is) = absurd (omega (arith, lt))
+each P a b c d e f g h i o (zero, lt, is) = subst P is a
+each P a b c d e f g h i o (suc zero, lt, is) = subst P is b
+each P a b c d e f g h i o (suc (suc zero), lt, is) = subst P is c
+each P a b c d e f g h i o (suc (suc (suc zero)), lt, is) = subst P is d
+each P a b c d e f g h i o (suc (suc (suc (suc zero))), lt, is) = subst P is e
+each P a b c d e f g h i o (suc (suc (suc (suc (suc zero)))), lt, is) = subst P is f
+each P a b c d e f g h i o (suc (suc (suc (suc (suc (suc zero))))), lt, is) = subst P is g
+each P a b c d e f g h i o (suc (suc (suc (suc (suc (suc (suc zero)))))), lt, is) = subst P is h
+each P a b c d e f g h i o (suc (suc (suc (suc (suc (suc (suc (suc zero))))))), lt, is) = subst P is i
+each P a b c d e f g h i o (suc (suc (suc (suc (suc (suc (suc (suc (suc k)))))))), lt, is) = absurd (omega (arith, lt))
 
 -- an option is `--` and its id
 pub with_hyphens : (o : Word) → Contains serve_options o → o ≡ 45 ∷ 45 ∷ id_of o
-with_hyphens = each (λ o. o ≡ 45 ∷ 45 ∷ id_of o) refl refl refl refl refl refl refl refl
+with_hyphens = each (λ o. o ≡ 45 ∷ 45 ∷ id_of o) refl refl refl refl refl refl refl refl refl
 
 -- after an option clap waits for its value
 abbrev waiting : Held → Word → Walk
@@ -61,27 +62,27 @@ after h o value = record (settled rules h) { pending = Some (id_of o, value ∷ 
 
 option_step : (h : Held) (o : Word) → Contains serve_options o → walked rules [] (walk_from h) o ≡ waiting h o
 unfolding clap_on_literals
-option_step h = each (λ o. walked rules [] (walk_from h) o ≡ waiting h o) refl refl refl refl refl refl refl refl
+option_step h = each (λ o. walked rules [] (walk_from h) o ≡ waiting h o) refl refl refl refl refl refl refl refl refl
 
 option_turn : (h : Held) (o : Word) → Contains serve_options o
     → turn_passes top [] (walk_from h) o ≡ (settle_passes rules false h && true)
 unfolding clap_on_literals
 option_turn h = each (λ o. turn_passes top [] (walk_from h) o ≡ (settle_passes rules false h && true))
-    refl refl refl refl refl refl refl refl
+    refl refl refl refl refl refl refl refl refl
 
 value_step : (h : Held) (o : Word) (x : ℕ) (xs : List ℕ) → (x == 45) ≡ false → Contains serve_options o
     → walked rules [] (waiting h o) (x ∷ xs) ≡ walk_from (after h o (x ∷ xs))
 unfolding clap_on_literals
 value_step h o x xs hx = each (λ o. walked rules [] (waiting h o) (x ∷ xs) ≡ walk_from (after h o (x ∷ xs)))
     (rw (hx, hx) refl) (rw (hx, hx) refl) (rw (hx, hx) refl) (rw (hx, hx) refl) (rw (hx, hx) refl)
-    (rw (hx, hx) refl) (rw (hx, hx) refl) (rw (hx, hx) refl) o
+    (rw (hx, hx) refl) (rw (hx, hx) refl) (rw (hx, hx) refl) (rw (hx, hx) refl) o
 
 value_turn : (h : Held) (o : Word) (x : ℕ) (xs : List ℕ) → (x == 45) ≡ false → Contains serve_options o
     → turn_passes top [] (waiting h o) (x ∷ xs) ≡ true
 unfolding clap_on_literals
 value_turn h o x xs hx = each (λ o. turn_passes top [] (waiting h o) (x ∷ xs) ≡ true)
     (rw (hx, hx) refl) (rw (hx, hx) refl) (rw (hx, hx) refl) (rw (hx, hx) refl) (rw (hx, hx) refl)
-    (rw (hx, hx) refl) (rw (hx, hx) refl) (rw (hx, hx) refl) o
+    (rw (hx, hx) refl) (rw (hx, hx) refl) (rw (hx, hx) refl) (rw (hx, hx) refl) o
 
 -- what is found for an option
 abbrev how : Reading
@@ -95,7 +96,7 @@ used_rows : (h : Held) (o value : Word) → Contains serve_options o → (settle
 unfolding clap_on_literals
 used_rows h o value = each (λ o. (settled rules (after h o value)).rows
     ≡ with_values (id_of o) how CommandLine (value ∷ []) (without (id_of o) (settled rules h).rows))
-    refl refl refl refl refl refl refl refl o
+    refl refl refl refl refl refl refl refl refl o
 
 used_once : (h : Held) (o value : Word) → Contains serve_options o
     → settle_passes rules false (after h o value)
@@ -103,7 +104,7 @@ used_once : (h : Held) (o value : Word) → Contains serve_options o
 unfolding clap_on_literals
 used_once h o value = each (λ o. settle_passes rules false (after h o value)
     ≡ ((not (has_row (id_of o) (settled rules h).rows) || false) && true))
-    refl refl refl refl refl refl refl refl o
+    refl refl refl refl refl refl refl refl refl o
 
 -- ---- rows
 
@@ -245,7 +246,7 @@ unfolding clap_on_literals
 rows_read given are =
     let w = walked_here given are in
     ap (λ (e : Walk). finished rules e.held) w.walk_is
-    ∙ no_defaults rules (settled rules w.end).rows (refl, (refl, (refl, (refl, (refl, (refl, (refl, (refl, tt))))))))
+    ∙ no_defaults rules (settled rules w.end).rows (refl, (refl, (refl, (refl, (refl, (refl, (refl, (refl, (refl, tt)))))))))
     ∙ w.rows
 
 chosen : (a : Bool) (o : Word × Word) (rows : Option Row) (others : Option (Word × Word))

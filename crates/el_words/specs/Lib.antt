@@ -1,4 +1,5 @@
 pub mod Options
 pub mod Words
+pub mod Proofs
 pub mod Commands
 pub mod within

@@ -42,7 +42,8 @@ fn options_of<'a>(alloc: Global) -> Result<Command<'a>, AllocError>
     let command = with_two(alloc, command, "network", "blocks")?;
     let command = with_two(alloc, command, "index", "client-port")?;
     let command = with_two(alloc, command, "node-port", "pool-count")?;
-    with_two(alloc, command, "pool-bytes", "head-bits")
+    let command = with_two(alloc, command, "pool-bytes", "head-bits")?;
+    command.arg(option_of(alloc, "relay"))
 }
 
 // The options that the words give, with their values. It fails only where memory runs out.

@@ -2,7 +2,7 @@
 ghost use Rattle.std.specs.Prelude.{◌≡◌, ◌≢◌, ◌<◌, ◌^◌, ℕ, List, [], ◌∷◌, codes, is_some, true, map, Some, IfSome, IfNone, IfOk, IsSomeAnd, MatchOption};
 ghost use Rattle.clap.specs.Matches.{first_value, found_of};
 ghost use Rattle.el_words.specs.Options.{Word, Given, words_of, value_of};
-ghost use Rattle.el_words.specs.Words.{IsOnceOf, IsServeOf, IsCheckOf, IsUpTo, IsPort, IsLimit, IsHeadBits, ArePorts, AreLimits, greatest_limits, network_name, network_magic, once_options, serve_options, texts};
+ghost use Rattle.el_words.specs.Words.{IsOnceOf, IsServeOf, IsCheckOf, IsAuditOf, IsUpTo, IsPort, IsLimit, IsHeadBits, ArePorts, AreLimits, greatest_limits, network_name, network_magic, once_options, serve_options, texts};
 ghost use Rattle.el_words.specs.Commands.{IsCommand, IsNoCommand};
 ghost use Rattle.el_words.specs.within.Reading.{GiveOptions};
 ghost use Rattle.el_words.specs.declared.words.Network as shape;
@@ -10,17 +10,20 @@ ghost use Rattle.el_words.specs.declared.words.ServeWords as serve_shape;
 ghost use Rattle.el_mempool.specs.declared.entry.PoolLimits as limits_shape;
 
 use crate::options::{are_options, first_of, value_in};
+use crate::proof_words::proof_of;
 use crate::reading::read_options;
 use clap::ArgMatches;
-use el_base::{OutOfMemory, Text};
+use el_base::{Hash32, Listed, OutOfMemory, Text};
 use el_lines::number_of;
 use el_mempool::PoolLimits;
 use std::alloc::Global;
 
-// The options of `once`, and those of `serve`.
+// The options of `once`, those of `audit`, and those of `serve`.
 const ONCE_OPTIONS: [&str; 2] = ["--blocks", "--network"];
 
-const SERVE_OPTIONS: [&str; 8] = [
+const AUDIT_OPTIONS: [&str; 3] = ["--blocks", "--index", "--network"];
+
+const SERVE_OPTIONS: [&str; 9] = [
     "--blocks",
     "--index",
     "--network",
@@ -29,6 +32,7 @@ const SERVE_OPTIONS: [&str; 8] = [
     "--pool-count",
     "--pool-bytes",
     "--head-bits",
+    "--relay",
 ];
 
 // The greatest limits of the unconfirmed set, which stand where no others are given.
@@ -118,6 +122,8 @@ pub struct ServeSettings {
     pub limits: PoolLimits,
     /// How many bits the number of a bucket has where the index is made, from 16 to 24.
     pub head_bits: u32,
+    /// Whether transactions are relayed.
+    pub relays: bool,
 }
 
 /// What the words of `serve` say.
@@ -127,8 +133,23 @@ pub struct ServeWords {
     pub blocks: Text,
     /// The folder of the index.
     pub index: Text,
+    /// The folder where transactions wait for the node, if they are relayed.
+    pub relay: Option<Text>,
     /// All but the folders.
     pub settings: ServeSettings,
+}
+
+/// What the words of `prove-check` say.
+#[derive(Debug, Drop)]
+pub struct ProofWords {
+    /// The bytes of the header of a block.
+    pub header: [u8; 80],
+    /// The txid of a transaction, in inner order.
+    pub txid: Hash32,
+    /// Its place in the block, counted from 0, below 10,000,000,000.
+    pub pos: u64,
+    /// Its branch, deepest pairing first: at most 32 hashes, in inner order.
+    pub branch: Listed<Hash32>,
 }
 
 /// What the words ask for.
@@ -148,6 +169,17 @@ pub enum Command {
         /// How many blocks the first of the two made branches has, from 1 to 20,000.
         count: u32,
     },
+    /// Audits an index against the block files of a folder.
+    Audit {
+        /// The folder of the block files.
+        blocks: Text,
+        /// The folder of the index.
+        index: Text,
+        /// The network whose blocks they are.
+        network: Network,
+    },
+    /// Checks whether a branch proves a transaction.
+    ProveCheck(ProofWords),
 }
 
 // The words after the name of this command, where they give options, each of which is one of these.
@@ -256,8 +288,8 @@ fn head_bits_in(words: &[String]) -> Option<u32>
 }
 
 /// What the words `serve --blocks DIR --index DIR --network NET --client-port N --node-port N` say, with
-/// `--pool-count N`, `--pool-bytes N` and `--head-bits N` or without, the options in any order, but for the
-/// folders; None exactly for other words. Takes no memory.
+/// `--pool-count N`, `--pool-bytes N`, `--head-bits N` and `--relay DIR` or without, the options in any
+/// order, but for the folders; None exactly for other words. Takes no memory.
 pub fn serve_of(words: &[String]) -> Option<ServeSettings>
     ensures found { IfSome result (λ settings. (said : serve_shape.ServeWords)
         × IsServeOf (texts words.now) said × (said.settings ≡ settings)) }
@@ -270,12 +302,14 @@ pub fn serve_of(words: &[String]) -> Option<ServeSettings>
     let (client_port, node_port) = ports_in(options)?;
     let limits = limits_in(options)?;
     let head_bits = head_bits_in(options)?;
+    let relays = value_in(options, "--relay").is_some();
     Some(ServeSettings {
         network,
         client_port,
         node_port,
         limits,
         head_bits,
+        relays,
     })
 }
 
@@ -306,6 +340,20 @@ pub fn check_of(words: &[String]) -> Option<u32>
     Some(count as u32)
 }
 
+/// The network of the words `audit --blocks DIR --index DIR --network NET`, the options in any order; None
+/// exactly for other words. Takes no memory.
+pub fn audit_of(words: &[String]) -> Option<Network>
+    ensures found { IfSome result (λ network. (blocks index : Word)
+        × IsAuditOf (texts words.now) blocks index network) }
+    ensures none { IfNone result ((blocks index : Word) (network : shape.Network)
+        → IsAuditOf (texts words.now) blocks index network → ⊥) }
+{
+    let options = options_after(words, "audit", &AUDIT_OPTIONS)?;
+    let _blocks = value_in(options, "--blocks")?;
+    let _index = value_in(options, "--index")?;
+    network_in(options)
+}
+
 // The words after the first.
 fn after_first(words: &[String]) -> &[String]
     ensures { (first : Word) (more : List Word) → texts words.now ≡ first ∷ more → texts result.now ≡ more }
@@ -324,6 +372,18 @@ fn folder_of(alloc: Global, read: &ArgMatches<'_>, id: &str) -> Result<Text, Out
     Text::from_str(alloc, read.get_str(id).unwrap())
 }
 
+// The folder of the relay that `clap` read, where one is named.
+fn relay_of(alloc: Global, read: &ArgMatches<'_>, relays: bool) -> Result<Option<Text>, OutOfMemory>
+    requires { is_some (first_value (found_of read.now) (codes "relay")) ≡ relays }
+    ensures { IfOk result (λ folder. first_value (found_of read.now) (codes "relay") ≡ folder) }
+{
+    if relays {
+        Ok(Some(folder_of(alloc, read, "relay")?))
+    } else {
+        Ok(None)
+    }
+}
+
 // The command of the words of `serve`, with the folders that `clap` reads.
 fn serve_command(
     alloc: Global,
@@ -340,6 +400,7 @@ fn serve_command(
     Ok(Command::Serve(ServeWords {
         blocks: folder_of(alloc, &read, "blocks")?,
         index: folder_of(alloc, &read, "index")?,
+        relay: relay_of(alloc, &read, settings.relays)?,
         settings,
     }))
 }
@@ -356,6 +417,44 @@ fn once_command(alloc: Global, words: &[String], network: Network) -> Result<Com
     Ok(Command::Once { blocks, network })
 }
 
+// The command of the words of `audit`, with the folders that `clap` reads.
+fn audit_command(alloc: Global, words: &[String], network: Network) -> Result<Command, OutOfMemory>
+    requires { (blocks index : Word) × IsAuditOf (texts words.now) blocks index network }
+    ensures { IfOk result (IsCommand (texts words.now)) }
+{
+    let Ok(read) = read_options(alloc, after_first(words)) else {
+        return Err(OutOfMemory);
+    };
+    let blocks = folder_of(alloc, &read, "blocks")?;
+    let index = folder_of(alloc, &read, "index")?;
+    Ok(Command::Audit {
+        blocks,
+        index,
+        network,
+    })
+}
+
+// The command of the words that aren't of `serve` or `once`.
+fn other_command(alloc: Global, words: &[String]) -> Result<Option<Command>, OutOfMemory>
+    requires no_serve { (said : serve_shape.ServeWords) → IsServeOf (texts words.now) said → ⊥ }
+    requires no_once { (blocks : Word) (network : shape.Network)
+        → IsOnceOf (texts words.now) blocks network → ⊥ }
+    ensures found { IfOk result (λ found. IfSome found (IsCommand (texts words.now))) }
+    ensures none { IfOk result (λ found. IfNone found (IsNoCommand (texts words.now))) }
+{
+    if let Some(count) = check_of(words) {
+        return Ok(Some(Command::CheckChain { count }));
+    }
+    if let Some(network) = audit_of(words) {
+        let command = audit_command(alloc, words, network)?;
+        return Ok(Some(command));
+    }
+    match proof_of(alloc, words)? {
+        Some(said) => Ok(Some(Command::ProveCheck(said))),
+        None => Ok(None),
+    }
+}
+
 /// The command that the words ask for; None exactly for words of no command. The rules that `clap` doesn't
 /// know are checked before: that each option is given once, as two words, with a value of its kind.
 pub fn read_words(alloc: Global, words: &[String]) -> Result<Option<Command>, OutOfMemory>
@@ -370,8 +469,5 @@ pub fn read_words(alloc: Global, words: &[String]) -> Result<Option<Command>, Ou
         let command = once_command(alloc, words, network)?;
         return Ok(Some(command));
     }
-    match check_of(words) {
-        Some(count) => Ok(Some(Command::CheckChain { count })),
-        None => Ok(None),
-    }
+    other_command(alloc, words)
 }

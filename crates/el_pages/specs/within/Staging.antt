@@ -28,7 +28,8 @@ least_write size = size - 255
 abbrev pub full_writes : ℕ → ℕ → ℕ
 full_writes size bytes = bytes / least_write size
 
--- and where each call but the last does
+-- How many calls at most write so many bytes through it, where each call but the last writes no fewer than
+-- those.
 abbrev pub writes_through : ℕ → ℕ → ℕ
 writes_through size bytes = full_writes size bytes + 1
 
@@ -37,7 +38,7 @@ pub record IsPaid (size calls_old calls_new : ℕ) (old new : Next) (bytes : ℕ
   pub end : new.at + new.used ≡ old.at + old.used + bytes
   pub paid : calls_new * least_write size + old.at ≤ calls_old * least_write size + new.at
 
--- so many bytes pay for all calls but one
+-- The calls of the disk since then are few: the bytes pay for all of them but one.
 abbrev pub AreFew : ℕ → ℕ → ℕ → ℕ → Type 0
 AreFew size calls_old calls_new bytes =
     calls_new * least_write size ≤ calls_old * least_write size + (least_write size + bytes)

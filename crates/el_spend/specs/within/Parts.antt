@@ -25,17 +25,19 @@ named_by tx number l = output_number (outpoint_at tx number l) (take tx l.txs)
 abbrev pub held_by : ListedOut → ℕ
 held_by x = if is_unspent x.state then x.value else 0
 
--- a row of a script with a higher balance, at most 2^64 - 1, and with a lower one
+-- a row of a script with a balance that is higher by a value (in satoshi), and at most 2^64 - 1
 abbrev pub raised : ℕ → ScriptRow → ScriptRow
 raised value r = record r { balance = min (r.balance + value) 18446744073709551615 }
 
+-- a row of a script with a balance that is lower by a value, and at least 0
 abbrev pub lowered : ℕ → ScriptRow → ScriptRow
 lowered value r = record r { balance = r.balance - value }
 
--- the script of that number has a higher balance, or a lower one
+-- the tables where the balance of the script of that number is higher
 abbrev pub balance_raised : ℕ → ℕ → Tables → Tables
 balance_raised script value tb = record tb { scripts = more_at script value tb }
 
+-- the tables where it is lower
 abbrev pub balance_lowered : ℕ → ℕ → Tables → Tables
 balance_lowered script value tb = record tb { scripts = less_at script value tb }
 
@@ -43,17 +45,19 @@ balance_lowered script value tb = record tb { scripts = less_at script value tb 
 abbrev pub state_changed : State → ℕ → Tables → Tables
 state_changed s k tb = record tb { outs = set_state s k tb }
 
--- one output more, and one less
+-- the tables with one output more, at the end
 abbrev pub out_appended : ListedOut → Tables → Tables
 out_appended x tb = record tb { outs = tb.outs ++ x ∷ [] }
 
+-- the tables without the last output
 abbrev pub out_gone : Tables → Tables
 out_gone tb = record tb { outs = but_last tb.outs }
 
--- one input more, and one less
+-- the tables with one input more, at the end
 abbrev pub in_appended : ℕ → Tables → Tables
 in_appended k tb = record tb { ins = tb.ins ++ k ∷ [] }
 
+-- the tables without the last input
 abbrev pub in_gone : Tables → Tables
 in_gone tb = record tb { ins = but_last tb.ins }
 

@@ -15,18 +15,20 @@ pub record GiveOptions (options words : List Word) : Type 0 where
 abbrev pub option_rule : Word → Rule
 option_rule id = record (new_rule id) { long = Some id; action = Some Set }
 
+-- a command without options: it has no word for its own name, and no `--help`
 abbrev pub no_options : App
 no_options = on_top (λ s. record s { no_binary_name = true; disable_help_flag = true })
     (new_app (codes "electrum_serve"))
 
--- two options more
+-- the command with two options more
 abbrev pub with_two : App → Word → Word → App
 with_two a x y = with_rule (with_rule a (option_rule x)) (option_rule y)
 
 -- all the options of commands
 abbrev pub reader : App
-reader = with_two (with_two (with_two (with_two no_options
+reader = with_rule (with_two (with_two (with_two (with_two no_options
     (codes "network") (codes "blocks"))
     (codes "index") (codes "client-port"))
     (codes "node-port") (codes "pool-count"))
-    (codes "pool-bytes") (codes "head-bits")
+    (codes "pool-bytes") (codes "head-bits"))
+    (option_rule (codes "relay"))

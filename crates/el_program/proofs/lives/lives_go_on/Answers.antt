@@ -6,4 +6,4 @@ returns-clause-empty g c = λ magic image none. empty_stands magic image none
 
 pub returns-clause-go_on : goal.returns-clause-go_on
 returns-clause-go_on g c = λ magic d was flight lives told left are serves calls.
-    lives_go _ _ _ magic d was flight lives told left are serves calls
+    lives_go _ _ _ _ magic d was flight lives told left are serves calls

@@ -1,10 +1,10 @@
-use Rattle.std.proofs.Common.{◌≡◌, ◌∙◌, true, inr, inl, sym, ap}
+use Rattle.std.proofs.Common.{◌≡◌, ◌∙◌, true, inr, inl, sym, ap, append-nil}
 use Rattle.el_outside.specs.Disk.{Image}
 use Rattle.el_outside.proofs.Traces.{goes_none}
 use Rattle.el_pages.specs.Stores.{disk_below, beside_in}
 use Rattle.el_program.proofs.IndexDisks.{unopened, means_one, beyond_new}
 use Rattle.el_program.specs.IndexDisks.{LeavesOneOf}
-use Rattle.el_loop.specs.Runs.{no_traffic}
+use Rattle.el_loop.specs.Traffic.{no_traffic}
 use Rattle.el_program.proofs.Rises.{unopened_caused}
 use Rattle.el_program.proofs.Servings.{serve_told, unopened_ends}
 use Rattle.el_program.proofs.serving.serve_disk.Goals as goal
@@ -21,7 +21,7 @@ returns-in-Ok-clause-ends g c = λ was flight index is.
       inr (serve_told _ _ _ (λ losses rose. rose) _ _ (index.sure ≡ true)
           (λ sure acked flight' left image now. means_one g.N.NetworkMagic.magic acked flight' image
           (left (is sure).told image ((is sure).told, now)))
-          g.A.Archive _ _ index _ _ r.0 _ (λ sure. sure) r.2),
+          g.A.Archive _ _ _ index _ _ r.0 _ (λ sure. sure) r.2),
     )
 
 pub returns-in-Ok-clause-causes : goal.returns-in-Ok-clause-causes
@@ -43,8 +43,8 @@ returns-in-Err-clause-is_bad g c = λ told is. unopened c.in-Err.status (c.in-Er
 pub returns-in-Err-clause-ends : goal.returns-in-Err-clause-ends
 returns-in-Err-clause-ends g c = λ was flight index is. (
   no_traffic,
-  λ t. goes_none _,
-  inl (unopened_ends index.sure was flight (LeavesOneOf g.D.Disk g.N.NetworkMagic.magic c.in-Err.disk) _ _ _ _ _ _
+  (λ t. goes_none _, λ t. sym (append-nil _)),
+  inl (unopened_ends index.sure was flight (LeavesOneOf g.D.Disk g.N.NetworkMagic.magic c.in-Err.disk) (g.Y.Relay.faults c.args.relay.now) _ _ _ _ _ _
       c.in-Err.status c.in-Err.ensures.status (λ sure. c.in-Err.ensures.unopened was flight index.chain (is sure))
       c.in-Err.ensures.counted c.in-Err.ensures.others_uncounted),
 )

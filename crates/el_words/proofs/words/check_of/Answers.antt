@@ -1,10 +1,11 @@
-use Rattle.std.proofs.Common.{◌≡◌, ◌<◌, ◌≤◌, List, [], ◌∷◌, Bool, true, false, get_or, length, codes, refl, sym, ap₂, ◌∙◌, arith}
-use Rattle.std.specs.Prelude.{not, String}
+use Rattle.std.proofs.Common.{◌≡◌, ◌<◌, ◌≤◌, List, [], ◌∷◌, get_or, length, codes, sym, ap₂, ◌∙◌, arith}
+use Rattle.std.specs.Prelude.{String}
 use Rattle.std.specs.String.{string_bytes}
 use Rattle.std.specs.Global.{Global}
 use Rattle.std.proofs.lemmas.Slice.Eq.{bytes_eq-Decides}
 use Rattle.el_words.specs.Options.{Word}
 use Rattle.el_words.specs.Words.{texts}
+use Rattle.el_words.proofs.ProofLemmas.{not_other}
 use Rattle.el_words.proofs.words.check_of.Goals as goal
 
 -- a list of two words
@@ -15,11 +16,6 @@ two_words (x ∷ []) a b least most is_a is_b = absurd (omega arith)
 two_words (x ∷ y ∷ []) a b least most is_a is_b =
     ap₂ (λ (a b : String Global). string_bytes a ∷ string_bytes b ∷ []) (sym is_a) (sym is_b)
 two_words (x ∷ y ∷ z ∷ more) a b least most is_a is_b = absurd (omega arith)
-
--- what is not other is the same
-not_other : (same other : Bool) → other ≡ not same → other ≡ false → same ≡ true
-not_other true other is untrue = refl
-not_other false other is untrue = absurd cc
 
 pub returns-clause-found : goal.returns-clause-found
 returns-clause-found c =
