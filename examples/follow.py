@@ -1,11 +1,12 @@
 #!/usr/bin/env python3
 """Follows a Bitcoin node and speaks its lines to the server, over the server's port for the node.
 
-usage: follow.py --blocks DIR --network NET --port N [--rpc URL --cookie FILE] [--once]
+usage: follow.py --blocks DIR --network NET --port N [--rpc URL --cookie FILE [--relay DIR]] [--once]
 
-It reads the node's block files (also masked ones) and writes nothing. Of all blocks that it has found it takes the one with
-the most work behind it as the tip, or with --rpc the node's own best block, and asks the server to go there. With --rpc it
-also tells the unconfirmed transactions that the node has, and those that it no longer has. With --once it ends when the
+It reads the node's block files (also masked ones) and writes nothing there. Of all blocks that it has found it takes the one
+with the most work behind it as the tip, or with --rpc the node's own best block, and asks the server to go there. With --rpc
+it also tells the unconfirmed transactions that the node has, and those that it no longer has. With --relay, which is the
+folder of the server's --relay, it gives the node the transactions of wallets that wait there. With --once it ends when the
 server has come as far as the block files; else it goes on until it is stopped, which is safe at any moment.
 
 Where the node, its block files or the server aren't as they have to be, it waits: a line on standard error tells when it
@@ -27,10 +28,11 @@ import sys
 import threading
 import time
 
-# It writes nothing, also not what Python makes of the modules beside it.
+# It writes nothing where it stands, also not what Python makes of the modules beside it.
 sys.dont_write_bytecode = True
 from block_files import MAGICS, BlockFiles, Headers, double_sha256, inner, is_whole, shown
 from node_rpc import NODE, Away, Node
+from relay import Relay
 from unconfirmed import Unconfirmed
 
 # Lines that are sent before their answers are read, and about how many bytes of them.
@@ -219,8 +221,8 @@ class Progress:
 class Follower:
     """What the server was told, and what it is to be told next."""
 
-    def __init__(self, files, server, node, every):
-        self.files, self.server, self.node, self.every = files, server, node, every
+    def __init__(self, files, server, node, relay, every):
+        self.files, self.server, self.node, self.relay, self.every = files, server, node, relay, every
         self.headers, self.waits = Headers(), server.waits
         self.at, self.fresh = None, []
         self.unconfirmed = Unconfirmed(server, node, say)
@@ -320,6 +322,8 @@ class Follower:
 
     def turn(self):
         """One look at the node; whether the server is where the block files are."""
+        if self.relay is not None:
+            self.relay.send()
         name = self.goal()
         if self.fresh and self.at is not None:
             self.tell_blocks(self.fresh)
@@ -342,12 +346,15 @@ def words():
     reader.add_argument("--port", required=True, type=int, help="the server's port for the node")
     reader.add_argument("--rpc", help="the node's JSON-RPC, as http://127.0.0.1:8332")
     reader.add_argument("--cookie", help="the node's file .cookie")
+    reader.add_argument("--relay", help="the folder of the server's --relay, whose transactions are given to the node")
     reader.add_argument("--once", action="store_true", help="end when the server has come as far")
     reader.add_argument("--pause", type=float, default=2.0, help="seconds between two looks at the node (2)")
     reader.add_argument("--every", type=float, default=5.0, help="seconds between two lines of a long way (5)")
     given = reader.parse_args()
     if bool(given.rpc) != bool(given.cookie):
         reader.error("--rpc and --cookie go together")
+    if given.relay and not given.rpc:
+        reader.error("--relay goes with --rpc and --cookie")
     url = URL.fullmatch(given.rpc or "")
     if given.rpc and not (url and 0 < int(url.group(2)) < 65536):
         reader.error("--rpc is a URL as http://127.0.0.1:8332")
@@ -355,6 +362,8 @@ def words():
         reader.error("--port is from 1 to 65535, --pause from 0 to 3600")
     if not os.path.isdir(given.blocks):
         reader.error(f"{given.blocks} is no folder")
+    if given.relay and not os.path.isdir(given.relay):
+        reader.error(f"{given.relay} is no folder")
     return given
 
 
@@ -388,7 +397,8 @@ def main():
     files = BlockFiles(given.blocks, bytes.fromhex(MAGICS[given.network]))
     server = Server(given.port, waits)
     node = Node(*URL.fullmatch(given.rpc).groups(), given.cookie) if given.rpc else None
-    follower = Follower(files, server, node, given.every)
+    relay = Relay(given.relay, server, node, say) if given.relay else None
+    follower = Follower(files, server, node, relay, given.every)
     try:
         follower.look()
         say(f"{len(follower.headers.blocks)} blocks in {given.blocks}")

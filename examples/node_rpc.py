@@ -11,6 +11,9 @@ from block_files import inner
 PATIENCE = 600
 NODE = "the node"
 WARMING_UP = -28
+# What it answers of a transaction that it has already: in a block, or among the unconfirmed ones.
+IN_A_BLOCK = -27
+KNOWN = ("txn-already-in-mempool", "txn-already-known", "txn-same-nonwitness-data-in-mempool")
 HASH = re.compile(r"[0-9a-f]{64}")
 
 
@@ -102,3 +105,11 @@ class Node:
         """The hex of each of these transactions, None for one that it no longer has, in their order."""
         found = [reply.get("result") for reply in self.replies(*[("getrawtransaction", t) for t in txids])]
         return [text if isinstance(text, str) and re.fullmatch("([0-9a-f]{2})+", text) else None for text in found]
+
+    def send(self, text):
+        """Gives it a transaction, in hex: why it refuses it, None where it has it then, as where it had it already."""
+        error = self.replies(("sendrawtransaction", text))[0].get("error")
+        if error is None or error.get("code") == IN_A_BLOCK:
+            return None
+        reason = " ".join(str(error.get("message")).split())
+        return None if any(word in reason for word in KNOWN) else f"{reason} ({error.get('code')})"
