@@ -16,6 +16,7 @@ import json
 import os
 import re
 import shutil
+import signal
 import socket
 import subprocess
 import sys
@@ -30,6 +31,9 @@ EXAMPLES = os.path.join(TOP, "examples")
 sys.dont_write_bytecode = True
 sys.path.insert(0, EXAMPLES)
 from regtest import MAGIC, Chain, double_sha256, transaction  # noqa: E402
+
+# How many seconds a case may take.
+BOUND = 300
 
 COIN = 5_000_000_000
 OPEN_SCRIPT, OWN_SCRIPT = "51", "52"
@@ -53,7 +57,9 @@ class Room:
     def __init__(self, folder):
         self.blocks, self.index = os.path.join(folder, "blocks"), os.path.join(folder, "index")
         self.cookie, self.told = os.path.join(folder, "cookie"), os.path.join(folder, "told")
+        self.relay = os.path.join(folder, "relay")
         os.mkdir(self.index)
+        os.mkdir(self.relay)
         self.clients, self.node = free_port(), free_port()
         self.server, self.feeder = None, None
 
@@ -64,11 +70,11 @@ class Room:
             stdout=subprocess.PIPE, check=True, timeout=60)
         return made.stdout.decode().split()
 
-    def start(self):
+    def start(self, *words):
         """Starts the server, and waits until it answers."""
         words = [
             "serve", "--blocks", self.blocks, "--index", self.index, "--network", "regtest",
-            "--client-port", str(self.clients), "--node-port", str(self.node)]
+            "--client-port", str(self.clients), "--node-port", str(self.node), *words]
         self.server = subprocess.Popen([PROGRAM, *words], stdout=subprocess.DEVNULL, stderr=subprocess.DEVNULL)
         self.height()
 
@@ -117,10 +123,11 @@ class Room:
 
     def close(self):
         """Stops what still runs."""
-        for it in (self.feeder, self.server):
-            if it is not None:
-                it.kill()
-                it.wait(10)
+        running = [it for it in (self.feeder, self.server) if it is not None]
+        for it in running:
+            it.kill()
+        for it in running:
+            it.wait(10)
 
     def ask(self, method, *params):
         """What the server answers a client, who comes again where another one is still there."""
@@ -148,6 +155,23 @@ class Room:
             pass
         return held
 
+    def broadcast(self, text):
+        """What the server answers a wallet that sends a transaction: the txid, or why not."""
+        found = self.ask("blockchain.transaction.broadcast", text)
+        return found["message"] if isinstance(found, dict) else found
+
+    def wallet(self):
+        """A wallet that stays."""
+        return socket.create_connection(("127.0.0.1", self.clients), timeout=20)
+
+    def relayed(self):
+        """By name, what the files of the relay's folder have."""
+        found = {}
+        for name in sorted(os.listdir(self.relay)):
+            with open(os.path.join(self.relay, name), encoding="utf-8") as it:
+                found[name] = it.read()
+        return found
+
     def balance(self, script):
         """Confirmed and unconfirmed satoshi of a script."""
         found = self.ask("blockchain.scripthash.get_balance", script_hash(script))
@@ -172,6 +196,8 @@ class NodeRpc:
 
     def __init__(self, cookie):
         self.best, self.pool, self.fault = None, {}, None
+        # What it answers to transactions that it is given, by txid: a code and a reason. It takes the others.
+        self.refusals, self.given = {}, []
         self.cookie, self.secret, self.starts, self.port, self.http = cookie, b"", 0, 0, None
         self.lock, self.most = threading.Lock(), 0
 
@@ -208,7 +234,23 @@ class NodeRpc:
             return self.best
         if method == "getrawmempool":
             return list(self.pool)
+        if method == "sendrawtransaction":
+            return self.take(params[0])
         return self.pool.get(params[0])
+
+    def take(self, text):
+        """The txid of a transaction that it takes; None of one that it refuses."""
+        txid = txid_of(text)
+        self.given.append(txid)
+        if txid in self.refusals:
+            return None
+        self.pool[txid] = text
+        return txid
+
+    def error(self, method, params):
+        """What a call is refused for."""
+        code, reason = self.refusals.get(txid_of(params[0]), (0, "")) if method == "sendrawtransaction" else (0, "")
+        return {"code": code, "message": reason} if code else None
 
     def reply(self, calls):
         """The reply to a list of calls."""
@@ -219,7 +261,11 @@ class NodeRpc:
         if self.fault == "odd":
             return {"result": "none of what was asked for"}
         with self.lock:
-            return [{"id": c["id"], "result": self.result(c["method"], c["params"]), "error": None} for c in calls]
+            return [self.answer(c["id"], c["method"], c["params"]) for c in calls]
+
+    def answer(self, number, method, params):
+        """The reply to a call."""
+        return {"id": number, "result": self.result(method, params), "error": self.error(method, params)}
 
 
 def answers_of(node):
@@ -421,13 +467,13 @@ def waits_where_another_feeder_is(room):
     return seen + [room.comes_to(3), len(room.says("waiting")), room.runs()], [2, 1, 0, 0, 3, 1, [None, None, []]]
 
 
-def at_a_node(room, count, *words):
+def at_a_node(room, count, *words, serve=()):
     """The stand-in of a node with so many blocks, and server and feeder at the last of them."""
     best, height = room.make("grow", count)
     rpc = NodeRpc(room.cookie)
     rpc.start()
     rpc.best = best
-    room.start()
+    room.start(*serve)
     room.follow("--rpc", rpc.url, "--cookie", room.cookie, *words)
     room.comes_to(int(height))
     return rpc
@@ -627,6 +673,100 @@ def waits_for_block_files_that_are_away(room):
     return seen + [room.comes_to(3), room.counts("going on", 1), room.runs()], [2, 1, 3, 1, [None, None, []]]
 
 
+def next_line(wallet):
+    """The next line that a wallet gets, as what it says."""
+    held = b""
+    while not held.endswith(b"\n"):
+        more = wallet.recv(1)
+        if not more:
+            break
+        held += more
+    return json.loads(held)
+
+
+def sends_the_transactions_of_wallets(room):
+    """A wallet sends a transaction that the node takes, one that it refuses and one that it knew, before the feeder comes:
+    they wait in the relay's folder. The feeder gives them to the node, and the wallet sees its payment, and then its block."""
+    best, _ = room.make("grow", 6)
+    good, = room.make("spend", 2, "--pay", OWN_SCRIPT)
+    bad, = room.make("spend", 3, "--pay", OWN_SCRIPT)
+    known, = room.make("spend", 4, "--pay", OWN_SCRIPT)
+    rpc = NodeRpc(room.cookie)
+    rpc.start()
+    rpc.best = best
+    rpc.refusals = {txid_of(bad): (-26, "min relay fee not met,\n 0 < 110"), txid_of(known): (-27, "Already in block chain")}
+    room.start("--relay", room.relay)
+    seen = [[room.broadcast(text) for text in (good, bad, known, good, "00")]]
+    seen += [room.relayed() == {txid_of(text) + ".tx": text for text in (good, bad, known)}]
+    with room.wallet() as wallet:
+        ask = {"id": 1, "method": "blockchain.scripthash.subscribe", "params": [script_hash(OWN_SCRIPT)]}
+        wallet.sendall(json.dumps(ask).encode() + b"\n")
+        seen += [next_line(wallet)["result"]]
+        room.follow("--rpc", rpc.url, "--cookie", room.cookie, "--relay", room.relay)
+        told = next_line(wallet)
+        seen += [told["method"], told["params"][0] == script_hash(OWN_SCRIPT), room.comes_to_hold((0, COIN))]
+        seen += [wanted_in_time(lambda: sorted(room.relayed()), [txid_of(bad) + ".refused"])]
+        seen += [room.relayed()[txid_of(bad) + ".refused"], len(room.says("refuses it: min relay fee not met"))]
+        rpc.become(room.make("grow", 1, "--confirm", good)[0])
+        told = next_line(wallet)
+        seen += [told["params"][0] == script_hash(OWN_SCRIPT), room.comes_to_hold((COIN, 0)), sorted(rpc.given)]
+    return seen + [room.runs()], [
+        [txid_of(good), txid_of(bad), txid_of(known), txid_of(good), "not a transaction"], True, None,
+        "blockchain.scripthash.subscribe", True, (0, COIN), [txid_of(bad) + ".refused"],
+        bad + "\nmin relay fee not met, 0 < 110 (-26)\n", 1, True, (COIN, 0),
+        sorted(map(txid_of, (good, bad, known))), [None, None, []]]
+
+
+def keeps_what_was_taken_when_the_server_stops(room):
+    """The server is killed as soon as the file of a wallet's transaction is there, before the wallet reads a reply. The wallet
+    asks again, and the feeder that comes then sends the transaction once."""
+    best, _ = room.make("grow", 4)
+    text, = room.make("spend", 2, "--pay", OWN_SCRIPT)
+    room.start("--relay", room.relay)
+    with room.wallet() as wallet:
+        ask = {"id": 1, "method": "blockchain.transaction.broadcast", "params": [text]}
+        wallet.sendall(json.dumps(ask).encode() + b"\n")
+        seen = [wanted_in_time(lambda: txid_of(text) + ".tx" in os.listdir(room.relay), True)]
+        room.kill()
+    seen += [room.relayed()]
+    room.start("--relay", room.relay)
+    seen += [room.broadcast(text), room.relayed()]
+    rpc = NodeRpc(room.cookie)
+    rpc.start()
+    rpc.best = best
+    room.follow("--rpc", rpc.url, "--cookie", room.cookie, "--relay", room.relay)
+    file = {txid_of(text) + ".tx": text}
+    return seen + [room.comes_to_hold((0, COIN)), room.relayed(), rpc.given, room.runs()], [
+        True, file, txid_of(text), file, (0, COIN), {}, [txid_of(text)], [None, None, []]]
+
+
+def waits_with_transactions_for_the_node(room):
+    """The node isn't there when a wallet sends a transaction, and the relay's folder goes for a while: a broadcast fails then.
+    What was taken waits until the node is there."""
+    rpc = at_a_node(room, 4, "--relay", room.relay, serve=("--relay", room.relay))
+    text, = room.make("spend", 2, "--pay", OWN_SCRIPT)
+    rpc.stop()
+    seen = [room.comes_to_say("waiting for the node"), room.broadcast(text), room.relayed()]
+    os.rename(room.relay, room.relay + ".away")
+    other, = room.make("spend", 3, "--pay", OWN_SCRIPT)
+    seen += [room.broadcast(other)]
+    os.rename(room.relay + ".away", room.relay)
+    rpc.start()
+    seen += [room.comes_to_hold((0, COIN)), room.relayed(), room.broadcast(other), room.comes_to_hold((0, 2 * COIN))]
+    return seen + [room.runs()], [
+        1, txid_of(text), {txid_of(text) + ".tx": text}, "relay failed", (0, COIN), {}, txid_of(other), (0, 2 * COIN),
+        [None, None, []]]
+
+
+def sends_nothing_without_a_relay(room):
+    """The server has no relay."""
+    room.make("grow", 4)
+    text, = room.make("spend", 2, "--pay", OWN_SCRIPT)
+    room.start()
+    room.follow()
+    return [room.comes_to(4), room.broadcast(text), room.relayed()], [4, "no relay", {}]
+
+
 def tells_how_far_it_is(room):
     """A line, whenever so many seconds went by, has the height, how many blocks come a second, and the time that is left."""
     room.make("grow", 200)
@@ -680,24 +820,44 @@ CASES = [
     waits_for_a_node_that_is_not_well,
     waits_for_the_node_s_cookie,
     waits_for_block_files_that_are_away,
+    sends_the_transactions_of_wallets,
+    keeps_what_was_taken_when_the_server_stops,
+    waits_with_transactions_for_the_node,
+    sends_nothing_without_a_relay,
     tells_how_far_it_is,
     gives_up_where_it_is_refused,
     gives_up_at_another_port,
 ]
 
 
+class TooLong(Exception):
+    """A case took more time than it may."""
+
+
+def is_late(*_):
+    """Ends the case that runs."""
+    raise TooLong(f"it had not ended after {BOUND} seconds")
+
+
+def in_time(case, room):
+    """What a case that ends in time sees, and what it wants. Server and feeder are stopped, in whatever way it ends."""
+    signal.signal(signal.SIGALRM, is_late)
+    signal.setitimer(signal.ITIMER_REAL, BOUND, 60)
+    try:
+        return case(room)
+    finally:
+        signal.setitimer(signal.ITIMER_REAL, 0)
+        room.close()
+
+
 def try_case(case):
     """Whether the case sees what it wants; says what it saw otherwise."""
-    folder = tempfile.mkdtemp(prefix="feeds-")
-    room = Room(folder)
     try:
-        seen, wanted = case(room)
-    except (OSError, subprocess.SubprocessError, AttributeError, TypeError, KeyError) as error:
+        with tempfile.TemporaryDirectory(prefix="feeds-") as folder:
+            seen, wanted = in_time(case, Room(folder))
+    except Exception as error:
         print(f"feeds: {case.__name__} FAILED: {error!r}")
         return False
-    finally:
-        room.close()
-        shutil.rmtree(folder)
     if seen == wanted:
         return True
     print(f"feeds: {case.__name__} FAILED: it saw {seen}, and not {wanted}")

@@ -32,5 +32,6 @@ abbrev pub with_left : Left → Result ℕ CompactFault → Result (ℕ × Left)
 with_left left (Ok n) = Ok (n, after (width_of left.rest) left)
 with_left left (Err e) = Err e
 
+-- a CompactSize at the front of what is left (Bitcoin's variable-length number), and what is left after it
 abbrev pub compact_at : Left → Result (ℕ × Left) CompactFault
 compact_at left = with_left left (number_at left.place left.rest)

@@ -7,6 +7,7 @@ use Rattle.el_rows.specs.declared.faults.AppendFault.TheVariants as append
 use Rattle.el_chain.specs.declared.fault.ConnectFault.{ConnectFault}
 use Rattle.el_chain.specs.declared.fault.ConnectFault.TheVariants as connect
 
+-- the fault of a row that isn't added, as a connection tells it: the same cause, with the same numbers
 abbrev pub as_connect_fault : AppendFault → ConnectFault
 as_connect_fault (append.Full table rows) = connect.Full table rows
 as_connect_fault append.Memory = connect.Memory

@@ -25,7 +25,7 @@ pub record GivesNoMore (t : Tx) (coins : List Coin) : Type 0 where
   pub other : is_coinbase t ≡ false
   pub less : total_value t.outputs ≤ inputs_take t.inputs coins
 
--- so does each of these transactions, one after the other
+-- each of these transactions, one after the other, gives no more than it takes
 abbrev pub AllGiveNoMore : ℕ → List Tx → List Coin → Type 0
 AllGiveNoMore height [] coins = ⊤
 AllGiveNoMore height (t ∷ ts) coins =

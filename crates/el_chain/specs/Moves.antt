@@ -26,7 +26,7 @@ StoodAt of_files before after n text =
     of_files.tells → (file : List ℕ) × WasSeen of_files before after n.place.file file
     × (text ≡ block_at n.place file)
 
--- the same at any moment up to then
+-- the bytes stood at the node's place in its file at any moment up to then
 abbrev pub StoodBy : {A : Type 0} → block_files.Ghosts A → (ℕ → List ℕ) → Node → List ℕ → Type 0
 StoodBy of_files after n text = StoodAt of_files (λ file. []) after n text
 

@@ -17,7 +17,7 @@ pub record IsNodeOf (bytes : List ℕ) (b : Block) (n : Node) : Type 0 where
   pub text : block_at n.place bytes ≡ block_encoding b
   pub within : n.place.offset + 8 + n.place.len ≤ length bytes
 
--- so is each of these nodes, of one block after the other
+-- these nodes are those of the blocks, in the same order
 abbrev pub AreNodesOf : List ℕ → List Block → List Node → Type 0
 AreNodesOf bytes [] [] = ⊤
 AreNodesOf bytes (b ∷ bs) (n ∷ ns) = IsNodeOf bytes b n × AreNodesOf bytes bs ns

@@ -1,5 +1,5 @@
--- The numbers of the summary of a check, which the number of blocks of the made file's first branch tells, and
--- where a check leads.
+-- The numbers of the summary of a check, which the number of blocks of the made file's first branch tells,
+-- and where a check leads.
 use Rattle.std.specs.Prelude.{◌≡◌, ℕ, ◌+◌, ◌-◌, ◌*◌, ◌/◌, ◌++◌, length}
 use Rattle.el_gen.specs.MadeFile.{made_file, first_branch, fork, side_branch}
 use Rattle.el_check_chain.specs.Checked.{Way, summary_at_end}

@@ -4,13 +4,15 @@ use crate::pool::names_tip;
 use el_base::Bytes;
 use el_block::decode_block;
 use el_chain::Node;
-use el_fakes::MemArchive;
+use el_fakes::{MemArchive, MemRelay};
+use el_fees::FeeTable;
 use el_gen::{BLOCK_1, GENESIS};
 use el_headers::HeaderTree;
 use el_mempool::PoolLimits;
 use el_outside::Place;
 use el_plain::PlainLedger;
 use el_pool::Pool;
+use el_relay::Desk;
 use el_replies::{LineReply, reply_line};
 use el_sessions::{Session, Subs};
 use el_side::{Caches, Holdings};
@@ -373,6 +375,8 @@ pub struct World {
     pub holdings: Holdings,
     pub caches: Caches,
     pub session: Session,
+    pub desk: Desk,
+    pub relay: MemRelay,
 }
 
 // Where a record of so many bytes stands at the end of the file.
@@ -472,6 +476,7 @@ pub fn world_of(alloc: Global, list: &[Bytes], failing: u64) -> Option<World> {
             tree,
             magic: MAGIC,
             pool: Pool::new(alloc, LIMITS),
+            fees: FeeTable::new(),
         },
         caches: Caches::new(alloc),
         session: Session {
@@ -479,6 +484,8 @@ pub fn world_of(alloc: Global, list: &[Bytes], failing: u64) -> Option<World> {
             headers: false,
             subs: Subs::new(alloc),
         },
+        desk: Desk::new(alloc, false).ok()?,
+        relay: MemRelay::new(alloc, Vec::new(alloc), Vec::new(alloc)),
     })
 }
 
@@ -497,6 +504,8 @@ pub fn reply(alloc: Global, world: &mut World, line: &[u8]) -> Option<LineReply>
         &world.holdings,
         &mut world.caches,
         &mut world.session,
+        &mut world.desk,
+        &mut world.relay,
         line,
     )
     .ok()

@@ -1,11 +1,13 @@
 // Random tables: transactions come, are dropped, and blocks come and go, and after each step what the set
-// tells is what a plain list tells that is sifted anew and walked from its start for each question.
+// tells is what a plain list tells that is sifted anew and walked from its start for each question; so with
+// the fee histogram, whose table follows the set.
 ghost use Rattle.std.specs.Prelude.{◌≤◌, length, IfSome};
 ghost use Rattle.el_tx.specs.Encoding.{HasEncoding};
 
 use crate::pool::{coinbase_id, encoded, extend};
 use el_base::{Bytes, Hash32, OutOfMemory, sha256};
 use el_chain::{Coin, Touched};
+use el_fees::FeeTable;
 use el_gen::spend;
 use el_mempool::{Held, PoolEntry, PoolLimits};
 use el_model::Ledger;
@@ -17,6 +19,17 @@ use std::process::Abort;
 
 // Transactions pay to the scripts of 0 to 4, coinbases to that of 101.
 const SCRIPTS: &[u32] = &[0, 1, 2, 3, 4, 101];
+
+// The edges of fee rates in satoshi a virtual byte, falling.
+const EDGES: &[u64] = &[
+    10_000, 5_000, 2_000, 1_000, 500, 200, 100, 50, 20, 10, 5, 2, 1, 0,
+];
+
+// How much less than it takes a transaction may give, and a little more: by these a few hundred bytes have
+// each edge.
+const LESS: &[u64] = &[
+    4, 80, 200, 400, 900, 2_000, 4_000, 9_000, 20_000, 40_000, 90_000, 200_000, 400_000, 900_000,
+];
 
 // A transaction of one or two inputs and one or two outputs.
 #[derive(Clone, Copy)]
@@ -35,6 +48,7 @@ struct Walk {
     alloc: Global,
     seed: u64,
     pool: Pool,
+    fees: FeeTable,
     ledger: PlainLedger,
     blocks: Vec<Option<usize>>,
     all: Vec<Made>,
@@ -394,7 +408,82 @@ fn count_of(touched: &Touched) -> usize {
     count
 }
 
+// The first edge that times the size is at most the fee.
+fn edge_of(fee: u64, size: u64) -> u64 {
+    for edge in EDGES.iter() {
+        if edge.saturating_mul(size) <= fee {
+            return *edge;
+        }
+    }
+    0
+}
+
+// The edge and the size of the kept one of that number. Without witnesses it has as many virtual bytes as
+// bytes.
+fn rated_at(walk: &mut Walk, number: usize) -> Option<(u64, u64)> {
+    let made = made_at(walk, number)?;
+    let size = bytes_of(walk.alloc, &made)?.len() as u64;
+    Some((edge_of(entry_of(walk, &made).fee, size), size))
+}
+
+// The edges and the sizes of all kept ones.
+fn all_rated(walk: &mut Walk) -> Option<Vec<(u64, u64)>> {
+    let mut rated = Vec::new(walk.alloc);
+    for number in 0..walk.kept.len() {
+        rated.push(rated_at(walk, number)?).ok()?;
+    }
+    Some(rated)
+}
+
+// The sizes of those that have the edge, together.
+fn sum_at(rated: &[(u64, u64)], edge: u64) -> u64 {
+    let mut sum = 0u64;
+    for (own, size) in rated {
+        if *own == edge {
+            sum = sum.saturating_add(*size);
+        }
+    }
+    sum
+}
+
+// The edges that some have, with their sums.
+fn sums_of(alloc: Global, rated: &[(u64, u64)]) -> Option<Vec<(u64, u64)>> {
+    let mut sums = Vec::new(alloc);
+    for edge in EDGES.iter() {
+        let sum = sum_at(rated, *edge);
+        if sum > 0 {
+            sums.push((*edge, sum)).ok()?;
+        }
+    }
+    Some(sums)
+}
+
+// The plain sums over the kept list.
+fn plain_sums(walk: &mut Walk) -> Option<Vec<(u64, u64)>> {
+    let rated = all_rated(walk)?;
+    sums_of(walk.alloc, rated.as_slice())
+}
+
+// Whether the histogram is the plain sums over the kept list.
+fn fees_agree(walk: &mut Walk) -> bool {
+    let Some(sums) = plain_sums(walk) else {
+        return false;
+    };
+    match walk.fees.histogram(walk.alloc) {
+        Ok(rows) => rows.as_slice() == sums.as_slice(),
+        Err(_) => false,
+    }
+}
+
 fn agrees(walk: &mut Walk, before: &[Seen], touched: &Touched) -> bool {
+    fees_agree(walk) && scripts_agree(walk, before, touched)
+}
+
+// Where nothing was asked before, nothing is compared.
+fn scripts_agree(walk: &mut Walk, before: &[Seen], touched: &Touched) -> bool {
+    if before.is_empty() {
+        return true;
+    }
     for (was, k) in before.iter().zip(SCRIPTS) {
         if !agrees_at(walk, was, touched, *k) {
             return false;
@@ -480,13 +569,20 @@ fn taking(walk: &mut Walk) -> Made {
     }
 }
 
-// What it may give: what it takes or a little less, and now and then too much.
+// How much less, or a little more.
+fn some_less(walk: &mut Walk) -> u64 {
+    let place = random(&mut walk.seed, LESS.len() as u64) as usize;
+    LESS.get(place).copied().unwrap_or(4)
+}
+
+// What it may give: what it takes or less, and now and then too much.
 fn some_sum(walk: &mut Walk, made: &Made) -> u64 {
+    let less = some_less(walk);
     let all = walk.all.as_slice();
     let sum = taken(&mut walk.ledger, all, walk.kept.as_slice(), made).unwrap_or(9);
     in_64_bits(sum)
         .saturating_add(random(&mut walk.seed, 6))
-        .saturating_sub(4)
+        .saturating_sub(less)
 }
 
 // It gives the sum, now and then in two parts.
@@ -538,6 +634,7 @@ fn keep_made(walk: &mut Walk, made: &Made) -> bool {
 fn is_kept(walk: &mut Walk, before: &[Seen], made: &Made, bytes: &[u8]) -> bool {
     match walk.pool.add(&mut walk.ledger, bytes) {
         Ok((id, touched)) => {
+            walk.fees.follow(walk.pool.last_changes());
             id == made.txid && keep_made(walk, made) && agrees(walk, before, &touched)
         }
         Err(_) => false,
@@ -603,9 +700,19 @@ fn leave_out(walk: &mut Walk, number: usize) {
 // Whether the set drops it, with all that spend it, as the plain list does.
 fn drops_from_both(walk: &mut Walk, before: &[Seen], txid: &Hash32) -> bool {
     match walk.pool.drop_tx(txid) {
-        Ok(Some(touched)) => sift_list(walk) && agrees(walk, before, &touched),
+        Ok(Some(touched)) => {
+            walk.fees.follow(walk.pool.last_changes());
+            sift_list(walk) && agrees(walk, before, &touched)
+        }
         _ => false,
     }
+}
+
+// Whether the set lacks a transaction that was never made, and no fee changes.
+fn drops_nothing(walk: &mut Walk) -> bool {
+    let lacks = matches!(walk.pool.drop_tx(&Hash32([0; 32])), Ok(None));
+    walk.fees.follow(walk.pool.last_changes());
+    lacks && fees_agree(walk)
 }
 
 // One of the kept ones is dropped, with all that spend it.
@@ -617,7 +724,7 @@ fn drops(walk: &mut Walk, before: &[Seen]) -> bool {
             leave_out(walk, number);
             drops_from_both(walk, before, &made.txid)
         }
-        None => matches!(walk.pool.drop_tx(&Hash32([0; 32])), Ok(None)),
+        None => drops_nothing(walk),
     }
 }
 
@@ -686,7 +793,10 @@ fn takes_back(walk: &mut Walk) -> bool {
 // Whether both lists are the same after a move.
 fn moves_both(walk: &mut Walk, before: &[Seen]) -> bool {
     match walk.pool.after_move(&mut walk.ledger) {
-        Ok(touched) => sift_list(walk) && agrees(walk, before, &touched),
+        Ok(touched) => {
+            walk.fees.follow(walk.pool.last_changes());
+            sift_list(walk) && agrees(walk, before, &touched)
+        }
         Err(_) => false,
     }
 }
@@ -713,6 +823,17 @@ fn steps_once(walk: &mut Walk) -> bool {
     }
 }
 
+// How many steps left the fees as they should, of so many.
+fn fee_steps(walk: &mut Walk, count: u32) -> u32 {
+    let before: Vec<Seen> = Vec::new(walk.alloc);
+    for number in 0..count {
+        if !some_step(walk, before.as_slice()) {
+            return number;
+        }
+    }
+    count
+}
+
 // A walk over no blocks.
 fn start(alloc: Global, seed: u64) -> Walk {
     let limits = PoolLimits {
@@ -723,6 +844,7 @@ fn start(alloc: Global, seed: u64) -> Walk {
         alloc,
         seed,
         pool: Pool::new(alloc, limits),
+        fees: FeeTable::new(),
         ledger: PlainLedger::new(alloc),
         blocks: Vec::new(alloc),
         all: Vec::new(alloc),
@@ -758,6 +880,13 @@ fn walks(alloc: Global, seed: u64, count: u32) -> u32 {
     } else {
         0
     }
+}
+
+#[test]
+fn fees_are_plain_sums_after_many_calls(rt: HostRuntime) {
+    let mut walk = start(rt.alloc(), 9);
+    assert!(rt; begins(&mut walk));
+    assert!(rt; fee_steps(&mut walk, 300) == 300);
 }
 
 #[test]

@@ -42,6 +42,10 @@ const OTHER_WORDS: &[&str] = &[
     "check-chain 20001",
     "check-chain 1x",
     "check-chain 1 2",
+    "audit --blocks a --index b",
+    "audit --blocks a --index b --network main --client-port 1",
+    "audit --blocks a --index b --network signet",
+    "prove-check 00 00 0 -",
 ];
 
 // Whether a call with these words ends at once.

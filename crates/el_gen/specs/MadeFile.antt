@@ -67,10 +67,11 @@ fork_hash count = last_hash no_block (first_branch (fork count))
 abbrev pub side_branch : ℕ → List Block
 side_branch count = branch_blocks (fork_hash count) 0 1 (fork count) (left_out count + 1)
 
--- the hashes of the last blocks of the two branches
+-- the hash of the last block of the first branch
 abbrev pub first_tip : ℕ → Hash32
 first_tip count = last_hash no_block (first_branch count)
 
+-- the hash of the last block of the side branch
 abbrev pub side_tip : ℕ → Hash32
 side_tip count = last_hash (fork_hash count) (side_branch count)
 

@@ -31,11 +31,13 @@ impl<R: Rows> Index<R> {
     /// `DiskFailed` where the read failed. The rows come back beside it, as they were.
     pub fn over(alloc: Global, rows: R) -> Result<Index<R>, (DiskFailed, R)>
         requires live { R.is_live rows }
+
         // It stands for each chain of which the rows are those of an index, with the store's number of heads.
         ensures stands { (chain : Chain) → R.tells → AreRowsOf (R.heads rows) (R.lists rows) chain
             → IfOk result (λ i. IsIndexOf R.tells (R.heads i.rows) (R.lists i.rows) i.tip chain) }
         // Rows were read and nothing else, also where that failed.
         ensures reads { IfOk result (λ i. WasRead ⟦<R as Rows>⟧ rows i.rows) }
+
         ensures failed { IfErr result (λ e. WasRead ⟦<R as Rows>⟧ rows e.1) }
         ensures counted { IfOk result (λ i. R.faults i.rows ≡ R.faults rows) }
         ensures cause { IfErr result (λ e. RoseBy (R.faults rows) (R.faults e.1) 1) }

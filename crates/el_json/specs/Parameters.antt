@@ -53,11 +53,11 @@ hash_or (Err e) = None
 abbrev pub hash_shown : List ℕ → Option Hash32
 hash_shown text = hash_or (decode_sized text 32)
 
--- a hash
+-- the hash that a text shows by 64 hex digits, in inner order
 abbrev pub hash_in : Data → Option Hash32
 hash_in d = option_and_then hash_shown (as_str d)
 
--- exactly two values
+-- the two values of a list of exactly two
 abbrev pub pair_of : Items → Option (Data × Data)
 pair_of (item a (item b no_items)) = Some (a, b)
 pair_of ds = None

@@ -4,7 +4,7 @@ use Rattle.std.proofs.Common.{◌≡◌, ◌+◌, ap, ◌∙◌, arith}
 use Rattle.el_row_formats.specs.Tables.{Tables, tables_of}
 use Rattle.el_rows.specs.Reads.{Same}
 
--- the last version
+-- the last of the versions; of none it has no tables
 abbrev pub last_of : List (List (List (List ℕ))) → List (List (List ℕ))
 last_of versions = get_or versions (length versions - 1) []
 

@@ -27,7 +27,7 @@ pub record BufferState : Type 0 where
 abbrev pub HasNone : ℕ → List ℕ → Type 0
 HasNone byte bytes = AllByRecursion (λ b. b ≢ byte) bytes
 
--- no byte 10
+-- none of the bytes is 10, the newline
 abbrev pub HasNoNewline : List ℕ → Type 0
 HasNoNewline bytes = HasNone 10 bytes
 

@@ -20,7 +20,7 @@ cut_before byte rest =
     if byte == 10 then record { whole = [] ∷ rest.whole; open_line = rest.open_line }
     else byte_before byte rest.whole rest.open_line
 
--- the lines of bytes
+-- the bytes, cut at each newline: the whole lines, and the one that is still open
 abbrev pub cut : List ℕ → Cut
 cut [] = record { whole = []; open_line = [] }
 cut (byte ∷ bytes) = cut_before byte (cut bytes)

@@ -34,20 +34,23 @@ file_cut n is_seen file = record {
   kept = shortened n file.kept;
 }
 
--- after a sync
+-- after a sync: what reads give is on the disk
 abbrev pub file_synced : FileState → FileState
 file_synced file = record { bytes = file.bytes; kept = synced file.bytes }
 
--- The numbers choose an image: the first its size, counted on from the least and around; each next the byte
--- at the next place, where any byte may be. A number that isn't there is 0.
+-- The size of the image that the numbers choose: the first of them, counted on from the least size and
+-- around. A number that isn't there is 0.
 abbrev pub chosen_size : Kept → List ℕ → ℕ
 chosen_size kept numbers = kept.least + get_or numbers 0 0 % (kept.greatest - kept.least + 1)
 
+-- Its byte at a place: what is known to stand there, and else the number after those for the size and for the
+-- places before.
 abbrev pub chosen_byte : Kept → List ℕ → ℕ → ℕ
 chosen_byte kept numbers i =
     if nat_lt i (length kept.bytes) && not (is_written kept.ranges i) then get_or kept.bytes i 0
     else get_or numbers (1 + i) 0 % 256
 
+-- the image that the numbers choose, of what may be on the disk
 abbrev pub chosen : Kept → List ℕ → List ℕ
 chosen kept numbers = map (chosen_byte kept numbers) (range_with_len 0 (chosen_size kept numbers))
 

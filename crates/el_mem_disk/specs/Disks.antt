@@ -18,6 +18,7 @@ pub record DiskState : Type 0 where
   pub faults : ℕ
   pub starved : ℕ
 
+-- the disk as contracts see it
 abbrev pub state_of : MemDisk → DiskState
 state_of disk = record {
   files = file_of disk.files.items;
@@ -44,13 +45,15 @@ moment_of disk = length (state_of disk).past
 abbrev pub left_on : MemDisk → ℕ → Image → Type 0
 left_on disk = LeftSince (kept_in (state_of disk).files) (state_of disk).past
 
--- after a call more, which may have changed one file, and may have failed
+-- after a call more: what was known of the files before it joins the past
 abbrev pub ticked : DiskState → DiskState
 ticked s = record s { past = kept_in s.files ∷ s.past; calls = risen s.calls 1 }
 
+-- the file of that number is this one now, and all others stay
 abbrev pub with_file : DiskState → ℕ → FileState → DiskState
 with_file s file here = record s { files = at_file s.files file here }
 
+-- the call failed, and is counted
 abbrev pub failed : DiskState → DiskState
 failed s = record s { faults = risen s.faults 1 }
 

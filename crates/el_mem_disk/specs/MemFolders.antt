@@ -6,17 +6,19 @@ use Rattle.el_mem_disk.specs.Disks.{seen_on, moment_of, left_on}
 use Rattle.el_mem_disk.specs.declared.disk.MemDisk.{MemDisk}
 use Rattle.el_mem_disk.specs.declared.mem_folder.MemFolder.{MemFolder}
 
--- the disk below it
+-- the disk below the folder
 abbrev pub below : MemFolder → MemDisk
 below folder = folder.disk
 
--- what its files hold, the moment, and what a crash may leave, are the disk's
+-- what its files hold, as a read gives it: what the disk's hold
 abbrev pub folder_seen : MemFolder → Image
 folder_seen folder = seen_on folder.disk
 
+-- the moment of the folder: the disk's
 abbrev pub folder_moment : MemFolder → ℕ
 folder_moment folder = moment_of folder.disk
 
+-- what a crash since a moment might have left: what it might have left of the disk
 abbrev pub folder_left : MemFolder → ℕ → Image → Type 0
 folder_left folder = left_on folder.disk
 

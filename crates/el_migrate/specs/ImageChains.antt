@@ -54,7 +54,7 @@ abbrev pub IsAnyIndex : List ℕ → Image → Tables → Type 0
 IsAnyIndex magic image tables =
     (IsRooted image × IsIndex magic image tables) ⊎ ((IsRooted image → ⊥) × IsOldIndex magic image tables)
 
--- it is none
+-- no opening takes the image: it is no index of the network, in neither format
 abbrev pub IsNoIndex : List ℕ → Image → Type 0
 IsNoIndex magic image = (tables : Tables) → IsAnyIndex magic image tables → ⊥
 

@@ -23,7 +23,7 @@ pub record IsOldHead (l : Layout) (magic : ℕ) (file : List ℕ) : Type 0 where
   pub format : word file 4 ≡ l.format
   pub network : word file 8 ≡ magic
 
--- or with something else
+-- The meta file begins otherwise: this was wanted, and this was found, of the first that is wrong.
 abbrev pub IsBadOldHead : Layout → ℕ → List ℕ → Found → Type 0
 IsBadOldHead l magic file found = ((word file 0 ≢ LETTERS) × (found ≡ (l.first, LETTERS, word file 0)))
     ⊎ ((word file 0 ≡ LETTERS) × (((word file 4 ≢ l.format) × (found ≡ (l.first, l.format, word file 4)))

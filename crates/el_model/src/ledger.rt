@@ -79,53 +79,66 @@ pub trait Ledger {
     fn header(&mut self, h: u32) -> Result<[u8; 80], DiskFailed>
         requires live { is_live self.old }
         requires within { MatchOption (height self.old) ⊥ (λ top. h ≤ top) }
+
         ensures header { (chain : Chain) → stands self.old chain
             → IfOk result (λ bytes. header_at chain h ≡ Some bytes) }
         ensures rows { reads self.new ≤ reads self.old + 1 }
+
         ensures quiet { Quiet is_live height tip buckets stands
             (KeepsBelow tells_crash moment left_since beside) self.old self.new }
+
         ensures cause { HasCause (faults self.old) (faults self.new) result };
 
     /// Where the block of that height stands in the block files.
     fn place(&mut self, h: u32) -> Result<Place, DiskFailed>
         requires live { is_live self.old }
         requires within { MatchOption (height self.old) ⊥ (λ top. h ≤ top) }
+
         ensures place { (chain : Chain) → stands self.old chain
             → IfOk result (λ place. place_at chain h ≡ Some place) }
         ensures rows { reads self.new ≤ reads self.old + 1 }
+
         ensures quiet { Quiet is_live height tip buckets stands
             (KeepsBelow tells_crash moment left_since beside) self.old self.new }
+
         ensures cause { HasCause (faults self.old) (faults self.new) result };
 
     /// The block hashes of heights 0 to `upto`, in inner order.
     fn hashes(&mut self, alloc: Global, upto: u32) -> Result<Vec<Hash32>, QueryFault>
         requires live { is_live self.old }
         requires within { MatchOption (height self.old) ⊥ (λ top. upto ≤ top) }
+
         ensures hashes { (chain : Chain) → stands self.old chain
             → IfOk result (λ found. found.items ≡ hashes_to chain upto) }
         // Also where no chain is told.
         ensures len { IfOk result (λ found. length found.items ≡ upto + 1) }
         ensures rows { reads self.new ≤ reads self.old + (upto + 1) }
+
         ensures quiet { Quiet is_live height tip buckets stands
             (KeepsBelow tells_crash moment left_since beside) self.old self.new }
+
         ensures cause { CountsOnly (faults self.old) (faults self.new) QueryFault.DiskFailed result };
 
     /// The history of a script hash (Electrum Protocol 1.4, `blockchain.scripthash.get_history`).
     fn history(&mut self, alloc: Global, script_hash: &Hash32) -> Result<Vec<Entry>, QueryFault>
         requires live { is_live self.old }
+
         ensures history { (chain : Chain) → stands self.old chain
             → IfOk result (λ found. found.items ≡ history chain script_hash.now.0) }
         ensures rows { (chain : Chain) → stands self.old chain
             → reads self.new ≤ reads self.old
             + (1 + asked.scripts_in_bucket chain (buckets self.old) script_hash.now.0
             + 2 * length (history chain script_hash.now.0)) }
+
         ensures quiet { Quiet is_live height tip buckets stands
             (KeepsBelow tells_crash moment left_since beside) self.old self.new }
+
         ensures cause { CountsOnly (faults self.old) (faults self.new) QueryFault.DiskFailed result };
 
     /// The coins of a script hash, in chain order of their transactions, then by index.
     fn unspent(&mut self, alloc: Global, script_hash: &Hash32) -> Result<Vec<Coin>, QueryFault>
         requires live { is_live self.old }
+
         ensures unspent { (chain : Chain) → stands self.old chain
             → IfOk result (λ found. found.items ≡ asked.unspent chain script_hash.now.0) }
         ensures rows { (chain : Chain) → stands self.old chain
@@ -133,64 +146,81 @@ pub trait Ledger {
             + (1 + asked.scripts_in_bucket chain (buckets self.old) script_hash.now.0
             + 2 * length (history chain script_hash.now.0)
             + asked.outputs_of_history chain script_hash.now.0) }
+
         ensures quiet { Quiet is_live height tip buckets stands
             (KeepsBelow tells_crash moment left_since beside) self.old self.new }
+
         ensures cause { CountsOnly (faults self.old) (faults self.new) QueryFault.DiskFailed result };
 
     /// What the coins of a script hash hold together, in satoshi.
     fn balance(&mut self, script_hash: &Hash32) -> Result<u64, DiskFailed>
         requires live { is_live self.old }
+
         ensures balance { (chain : Chain) → stands self.old chain
             → IfOk result (λ sum. sum ≡ asked.balance chain script_hash.now.0) }
         ensures rows { (chain : Chain) → stands self.old chain
             → reads self.new ≤ reads self.old
             + (1 + asked.scripts_in_bucket chain (buckets self.old) script_hash.now.0) }
+
         ensures quiet { Quiet is_live height tip buckets stands
             (KeepsBelow tells_crash moment left_since beside) self.old self.new }
+
         ensures cause { HasCause (faults self.old) (faults self.new) result };
 
     /// Where the newest transaction with that txid, in inner order, stands; None exactly where the chain has
     /// none.
     fn find_tx(&mut self, txid: &Hash32) -> Result<Option<Spot>, DiskFailed>
         requires live { is_live self.old }
+
         ensures spot { (chain : Chain) → stands self.old chain
             → IfOk result (λ found. found ≡ asked.find_tx chain txid.now) }
         ensures rows { (chain : Chain) → stands self.old chain
             → reads self.new ≤ reads self.old
             + (2 + asked.txs_in_bucket chain (buckets self.old) txid.now.0) }
+
         ensures quiet { Quiet is_live height tip buckets stands
             (KeepsBelow tells_crash moment left_since beside) self.old self.new }
+
         ensures cause { HasCause (faults self.old) (faults self.new) result };
 
     /// The txids of the block of that height, in inner order, as its transactions stand.
     fn block_txids(&mut self, alloc: Global, h: u32) -> Result<Vec<Hash32>, QueryFault>
         requires live { is_live self.old }
         requires within { MatchOption (height self.old) ⊥ (λ top. h ≤ top) }
+
         ensures txids { (chain : Chain) → stands self.old chain
             → IfOk result (λ found. txids_at chain h ≡ Some found.items) }
         ensures rows { (chain : Chain) → stands self.old chain
             → IfSome (txids_at chain h) (λ ids. reads self.new ≤ reads self.old + (1 + length ids)) }
+
         ensures quiet { Quiet is_live height tip buckets stands
             (KeepsBelow tells_crash moment left_since beside) self.old self.new }
+
         ensures cause { CountsOnly (faults self.old) (faults self.new) QueryFault.DiskFailed result };
 
     /// The coin of an outpoint; None exactly where the chain's coins lack it.
     fn coin(&mut self, o: &Outpoint) -> Result<Option<Coin>, DiskFailed>
         requires live { is_live self.old }
+
         ensures coin { (chain : Chain) → stands self.old chain
             → IfOk result (λ found. found ≡ asked.coin_of chain o.now) }
+
         ensures quiet { Quiet is_live height tip buckets stands
             (KeepsBelow tells_crash moment left_since beside) self.old self.new }
+
         ensures cause { HasCause (faults self.old) (faults self.new) result };
 
     /// The transaction that took the coin of the newest output with that outpoint; None exactly where there
     /// is none.
     fn spender(&mut self, o: &Outpoint) -> Result<Option<Entry>, DiskFailed>
         requires live { is_live self.old }
+
         ensures spender { (chain : Chain) → stands self.old chain
             → IfOk result (λ found. found ≡ asked.spender chain o.now) }
+
         ensures quiet { Quiet is_live height tip buckets stands
             (KeepsBelow tells_crash moment left_since beside) self.old self.new }
+
         ensures cause { HasCause (faults self.old) (faults self.new) result };
 
     /// One move: `back` blocks are taken back and the blocks of `forward` are put in their place, all of it
@@ -215,6 +245,7 @@ pub trait Ledger {
         requires live { is_live self.old }
         requires plan { IsPlan plan.now }
         requires fits { (chain : Chain) → stands self.old chain → FitsChain plan.now chain }
+
         // The ledger then stands for the target, and a crash since the start may have left the old chain or
         // the target.
         ensures moved { (chain : Chain) → stands self.old chain → IfOk result (λ m. (blocks : Chain)
@@ -231,10 +262,8 @@ pub trait Ledger {
             → tip self.new ≡ Some (last_hash zero_hash plan.now.forward)) }
         ensures top { IfOk result (λ m. blocks_in m.height
             ≡ (blocks_in (height self.old) - plan.now.back) + length plan.now.forward) }
+
         ensures live { OnOk result (is_live self.new) }
-        ensures refused { (chain : Chain) → stands self.old chain
-            → IfErr result (IsRefused
-            (StoodAt ⟦<A as Archive>⟧ (A.bytes archive.old) (A.bytes archive.new)) chain plan.now) }
         // After any other refusal it is as it was, and a crash leaves the old chain alone.
         ensures unchanged { IfErr result (λ e. e ≢ stop.DiskFailed
             → Quiet is_live height tip buckets stands
@@ -245,6 +274,10 @@ pub trait Ledger {
             → (next : Chain) × InFlight
             (StoodAt ⟦<A as Archive>⟧ (A.bytes archive.old) (A.bytes archive.new)) chain plan.now next
             × (tells_crash → LeavesOnly moment left_since self.old self.new (Either means chain next)) }
+
+        ensures refused { (chain : Chain) → stands self.old chain
+            → IfErr result (IsRefused
+            (StoodAt ⟦<A as Archive>⟧ (A.bytes archive.old) (A.bytes archive.new)) chain plan.now) }
         ensures cause { CountsOnly (faults self.old) (faults self.new) MoveFault.DiskFailed result }
         // Each block is read once at most.
         ensures calls { A.calls archive.new ≤ A.calls archive.old + length plan.now.forward }

@@ -1,5 +1,5 @@
 -- What contracts see of a disk over open files.
-use Rattle.std.specs.Prelude.{◌≡◌, ℕ, List, [], Option, None, IfSome, slice_index_or}
+use Rattle.std.specs.Prelude.{◌≡◌, ℕ, List, [], Option, None, Some, IfSome, slice_index_or}
 use Rattle.el_outside.specs.Disk.{Image, OnDisk}
 use Rattle.el_outside.specs.Moments.{LeftNow}
 
@@ -13,13 +13,17 @@ pub record FilesOf (D : Type 0) : Type 0 where
 abbrev pub opened : {I : Type 0} → List (Option I) → ℕ → Option I
 opened places f = slice_index_or places f None
 
+-- each file that was open is still open, as it was
+abbrev pub StayOpen : {I : Type 0} → List (Option I) → List (Option I) → Type 0
+StayOpen old new = (f : ℕ) → IfSome (opened old f) (λ it. opened new f ≡ Some it)
+
 -- What is open is the file of that number, and its name is on the disk.
 pub record IsOpen (tells : Type 0) {D I : Type 0} (is_file : I → ℕ → Type 0) (is_named : D → ℕ → Type 0)
     (files : D) (f : ℕ) (it : I) : Type 0 where
   pub file : is_file it f
   pub named : tells → is_named files f
 
--- so is each that is open
+-- each file that is open is the one of its number, and its name is on the disk
 abbrev pub Held : (tells : Type 0) {D I : Type 0} → (I → ℕ → Type 0) → (D → ℕ → Type 0) → D → List (Option I)
     → Type 0
 Held tells is_file is_named files places =

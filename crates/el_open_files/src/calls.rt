@@ -3,7 +3,7 @@ ghost use Rattle.std.specs.Prelude.{◌≡◌, ◌≤◌, ◌-◌, length, take,
 ghost use Rattle.el_outside.specs.Disk.{over, Torn, Cut, OnDisk};
 ghost use Rattle.el_outside.specs.Moments.{LeftNow};
 ghost use Rattle.el_open_files.specs.Calls.{Idle, Changes, Settles};
-ghost use Rattle.el_open_files.specs.OpenFiles.{Held};
+ghost use Rattle.el_open_files.specs.OpenFiles.{Held, StayOpen};
 
 use crate::finding::{file_at, make_open};
 use crate::moving::{fill_at, write_all};
@@ -19,6 +19,7 @@ pub(crate) fn size_of<F: OpenFiles>(
 ) -> io::Result<u64>
     requires held { Held F.tells F.is_file F.is_named files.old places.old }
     ensures held { Held F.tells F.is_file F.is_named files.new places.new }
+    ensures stay { StayOpen places.old places.new }
     ensures size { F.tells → IfOk result (λ n. n ≡ length (F.seen files.new file)) }
     ensures idle { F.tells → Idle F.seen F.moment F.left_since F.is_named files.old files.new }
 {
@@ -39,6 +40,7 @@ pub(crate) fn read_from<F: OpenFiles>(
 ) -> io::Result<usize>
     requires held { Held F.tells F.is_file F.is_named files.old places.old }
     ensures held { Held F.tells F.is_file F.is_named files.new places.new }
+    ensures stay { StayOpen places.old places.new }
     ensures within { IfOk result (λ n. n ≤ length buf.old) }
     ensures filled { F.tells → IfOk result (λ n.
         take n buf.new ≡ take n (drop at (F.seen files.new file))) }
@@ -64,6 +66,7 @@ pub(crate) fn write_to<F: OpenFiles>(
     requires held { Held F.tells F.is_file F.is_named files.old places.old }
     requires place { F.tells → at ≤ length (F.seen files.old file) }
     ensures held { Held F.tells F.is_file F.is_named files.new places.new }
+    ensures stay { StayOpen places.old places.new }
     ensures written { F.tells → OnOk result
         (F.seen files.new file ≡ over (F.seen files.old file) at bytes.now) }
     ensures changes { F.tells → Changes F.seen F.moment F.left_since F.is_named
@@ -86,6 +89,7 @@ pub(crate) fn cut_to<F: OpenFiles>(
     requires held { Held F.tells F.is_file F.is_named files.old places.old }
     requires shorter { F.tells → len ≤ length (F.seen files.old file) }
     ensures held { Held F.tells F.is_file F.is_named files.new places.new }
+    ensures stay { StayOpen places.old places.new }
     ensures cut { F.tells → OnOk result (F.seen files.new file ≡ take len (F.seen files.old file)) }
     ensures changes { F.tells → Changes F.seen F.moment F.left_since F.is_named
         file (Cut len) files.old files.new }
@@ -105,6 +109,7 @@ pub(crate) fn make_durable<F: OpenFiles>(
 ) -> io::Result<()>
     requires held { Held F.tells F.is_file F.is_named files.old places.old }
     ensures held { Held F.tells F.is_file F.is_named files.new places.new }
+    ensures stay { StayOpen places.old places.new }
     ensures durable { F.tells → OnOk result
         (OnDisk file (F.seen files.new) (LeftNow F.moment F.left_since files.new)) }
     ensures same { F.tells → OnOk result (F.seen files.new ≡ F.seen files.old) }

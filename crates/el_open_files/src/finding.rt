@@ -1,7 +1,7 @@
 // Files that are found, opened once, and made by their first write.
-ghost use Rattle.std.specs.Prelude.{◌≡◌, ℕ, None, IfOk, IfSome, IfNone, OnOk};
+ghost use Rattle.std.specs.Prelude.{◌≡◌, ℕ, None, Ok, IfOk, IfSome, IfNone, OnOk};
 ghost use Rattle.el_open_files.specs.Calls.{Idle};
-ghost use Rattle.el_open_files.specs.OpenFiles.{opened, IsOpen, Held, IsUnmade};
+ghost use Rattle.el_open_files.specs.OpenFiles.{opened, IsOpen, Held, IsUnmade, StayOpen};
 
 use crate::open_files::OpenFiles;
 use std::io;
@@ -56,6 +56,9 @@ pub(crate) fn make_open<F: OpenFiles>(
     ensures held { Held F.tells F.is_file F.is_named files.new places.new }
     ensures absent { F.tells → OnOk result (IfNone (opened places.new file)
         (IsUnmade F.seen F.moment F.left_since file files.new)) }
+    // For a file that is open nothing is asked.
+    ensures open { IfSome (opened places.old file) (λ it. (result ≡ Ok tt) × (files.new ≡ files.old)) }
+    ensures stay { StayOpen places.old places.new }
     ensures idle { F.tells → Idle F.seen F.moment F.left_since F.is_named files.old files.new }
 {
     match places.get(file as usize) {

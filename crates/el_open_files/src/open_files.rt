@@ -64,6 +64,7 @@ pub trait OpenFiles {
         ensures there { tells → IfOk result (λ found. IfSome found (λ it. has self.new file ≡ true)) }
         ensures absent { tells → IfOk result (λ found. IfNone found (has self.new file ≡ false)) }
         ensures empty { tells → IfOk result (λ found. IfNone found (seen self.new file ≡ [])) }
+
         ensures idle { tells → Idle seen moment left_since is_named self.old self.new };
 
     /// Opens a file, and makes it if it isn't there.
@@ -92,6 +93,7 @@ pub trait OpenFiles {
             → IfOk result (λ n. IsFront at n buf.new (seen self.new f)) }
         ensures end { tells → (f : ℕ) → is_file file.now f
             → IfOk result (λ n. n ≡ 0 → (length buf.old ≡ 0) ⊎ (length (seen self.new f) ≤ at)) }
+
         ensures idle { tells → Idle seen moment left_since is_named self.old self.new };
 
     /// Writes a front of the bytes over what is there from the place on, and past the end, and answers how
@@ -101,6 +103,7 @@ pub trait OpenFiles {
         ensures within { IfOk result (λ n. n ≤ length bytes.now) }
         ensures written { tells → (f : ℕ) → is_file file.now f → at ≤ length (seen self.old f)
             → IfOk result (λ n. seen self.new f ≡ over (seen self.old f) at (take n bytes.now)) }
+
         ensures interrupted { tells → IfErr result (λ e.
             error_kind e ≡ ErrorKind.Interrupted → seen self.new ≡ seen self.old) }
         ensures changes { tells → (f : ℕ) → is_file file.now f → at ≤ length (seen self.old f)

@@ -8,7 +8,7 @@ pub data Device : Type 0 where
   archive : Device
   disk : Device
 
--- the two are one
+-- whether the two are one device
 abbrev pub same_device : Device → Device → Bool
 same_device link link = true
 same_device archive archive = true

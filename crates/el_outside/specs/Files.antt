@@ -5,6 +5,6 @@ use Rattle.std.specs.Prelude.{◌≡◌, ℕ, List, ◌++◌}
 abbrev pub Grows : List ℕ → List ℕ → Type 0
 Grows old new = (more : List ℕ) × (new ≡ old ++ more)
 
--- so does each file
+-- the new bytes of each file begin with its old ones
 abbrev pub AllGrow : (ℕ → List ℕ) → (ℕ → List ℕ) → Type 0
 AllGrow old new = (file : ℕ) → Grows (old file) (new file)

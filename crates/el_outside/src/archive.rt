@@ -60,7 +60,9 @@ pub trait Archive {
     fn files(&mut self) -> Result<u32, ArchiveFailed>
         ensures few { IfOk result (λ n. n ≤ MOST_FILES) }
         ensures number { tells → IfOk result (λ n. n ≡ file_count self.new) }
+
         ensures keeps { tells → AllGrow (bytes self.old) (bytes self.new) }
+
         ensures called { calls self.new ≡ calls self.old + 1 }
         ensures cause { HasCause (faults self.old) (faults self.new) result };
 
@@ -68,7 +70,9 @@ pub trait Archive {
     fn size(&mut self, file: u32) -> Result<u64, ArchiveFailed>
         ensures small { IfOk result (λ n. n < SIZE_LIMIT) }
         ensures size { tells → IfOk result (λ n. n ≡ length (bytes self.new file ++ padding self.new file)) }
+
         ensures keeps { tells → AllGrow (bytes self.old) (bytes self.new) }
+
         ensures called { calls self.new ≡ calls self.old + 1 }
         ensures cause { HasCause (faults self.old) (faults self.new) result };
 
@@ -81,7 +85,9 @@ pub trait Archive {
             (length (bytes self.new file ++ padding self.new file) - at)) }
         ensures filled { tells → IfOk result (λ n. take n buf.new
             ≡ take n (drop at (bytes self.new file ++ padding self.new file))) }
+
         ensures keeps { tells → AllGrow (bytes self.old) (bytes self.new) }
+
         ensures called { calls self.new ≡ calls self.old + 1 }
         ensures cause { HasCause (faults self.old) (faults self.new) result };
 }

@@ -44,10 +44,12 @@ pub trait Disk {
     fn size(&mut self, file: u32) -> Result<u64, DiskFailed>
         ensures size { tells → IfOk result (λ n. n ≡ length (seen self.old file)) }
         ensures small { IfOk result (λ n. n < SIZE_LIMIT) }
+
         ensures seen { tells → seen self.new ≡ seen self.old }
         ensures crash { tells → NothingNew
             (LeftNow moment left_since self.old) (LeftNow moment left_since self.new) }
         ensures time { tells → Passes moment left_since self.old self.new }
+
         ensures called { calls self.new ≡ calls self.old + 1 }
         ensures cause { HasCause (faults self.old) (faults self.new) result };
 
@@ -58,10 +60,12 @@ pub trait Disk {
         ensures count { tells → IfOk result (λ n.
             n ≡ min (length buf.old) (length (seen self.old file) - at)) }
         ensures filled { tells → IfOk result (λ n. take n buf.new ≡ take n (drop at (seen self.old file))) }
+
         ensures seen { tells → seen self.new ≡ seen self.old }
         ensures crash { tells → NothingNew
             (LeftNow moment left_since self.old) (LeftNow moment left_since self.new) }
         ensures time { tells → Passes moment left_since self.old self.new }
+
         ensures called { calls self.new ≡ calls self.old + 1 }
         ensures cause { HasCause (faults self.old) (faults self.new) result };
 
@@ -70,15 +74,19 @@ pub trait Disk {
     /// changes nothing.
     fn write_at(&mut self, file: u32, at: u64, bytes: &[u8]) -> Result<(), DiskFailed>
         requires { tells → at ≤ length (seen self.old file) }
+
         ensures written { tells → OnOk result (seen self.new file ≡ over (seen self.old file) at bytes.now) }
+
         ensures others { tells → (f : ℕ) → f ≢ file → seen self.new f ≡ seen self.old f }
         ensures crash { tells → Follows (OnFile file (Torn at (length bytes.now)))
             (LeftNow moment left_since self.old) (LeftNow moment left_since self.new) }
+        ensures time { tells → Passes moment left_since self.old self.new }
+
         ensures too_long { SIZE_LIMIT ≤ at + length bytes.now → IsErr result }
         ensures too_long_seen { tells → SIZE_LIMIT ≤ at + length bytes.now → seen self.new ≡ seen self.old }
         ensures too_long_crash { tells → SIZE_LIMIT ≤ at + length bytes.now
             → NothingNew (LeftNow moment left_since self.old) (LeftNow moment left_since self.new) }
-        ensures time { tells → Passes moment left_since self.old self.new }
+
         ensures called { calls self.new ≡ calls self.old + 1 }
         ensures cause { HasCause (faults self.old) (faults self.new) result };
 
@@ -86,11 +94,14 @@ pub trait Disk {
     /// after a failure.
     fn cut(&mut self, file: u32, len: u64) -> Result<(), DiskFailed>
         requires { tells → len ≤ length (seen self.old file) }
+
         ensures cut { tells → OnOk result (seen self.new file ≡ take len (seen self.old file)) }
+
         ensures others { tells → (f : ℕ) → f ≢ file → seen self.new f ≡ seen self.old f }
         ensures crash { tells → Follows (OnFile file (Cut len))
             (LeftNow moment left_since self.old) (LeftNow moment left_since self.new) }
         ensures time { tells → Passes moment left_since self.old self.new }
+
         ensures called { calls self.new ≡ calls self.old + 1 }
         ensures cause { HasCause (faults self.old) (faults self.new) result };
 
@@ -99,11 +110,13 @@ pub trait Disk {
     fn sync(&mut self, file: u32) -> Result<(), DiskFailed>
         ensures durable { tells → OnOk result
             (OnDisk file (seen self.new) (LeftNow moment left_since self.new)) }
+
         ensures seen { tells → OnOk result (seen self.new ≡ seen self.old) }
         ensures others { tells → (f : ℕ) → f ≢ file → seen self.new f ≡ seen self.old f }
         ensures crash { tells → NothingNew
             (LeftNow moment left_since self.old) (LeftNow moment left_since self.new) }
         ensures time { tells → Passes moment left_since self.old self.new }
+
         ensures called { calls self.new ≡ calls self.old + 1 }
         ensures cause { HasCause (faults self.old) (faults self.new) result };
 

@@ -80,13 +80,16 @@ pub trait Link {
     /// The next arrival, whose bytes stand first in the buffer. It waits for peers as long as it takes.
     fn next(&mut self, buf: &mut [u8]) -> Result<Arrival, LinkFailed>
         requires { length buf.old ≡ BUFFER_SIZE }
+
         ensures lawful { IfOk result (λ arrival. IsNextArrival (last self.old) arrival (last self.new)) }
         ensures took { tells → IfOk result (λ arrival.
             GoesOn (trace self.old) (trace self.new) (with_bytes arrival buf.new ∷ []) [] []) }
         ensures silent { tells → IfOk result (λ arrival.
             NamesNoClosed (trace self.old) (with_bytes arrival buf.new)) }
+
         ensures none_taken { tells → OnErr result (trace self.new ≡ trace self.old) }
         ensures same_last { OnErr result (last self.new ≡ last self.old) }
+
         ensures called { RoseBy (calls self.old) (calls self.new) 1 }
         ensures cause { HasCause (faults self.old) (faults self.new) result };
 
@@ -94,9 +97,11 @@ pub trait Link {
     fn send(&mut self, p: Peer, bytes: &[u8]) -> Result<(), SendFault>
         ensures sent { tells → OnOk result
             (GoesOn (trace self.old) (trace self.new) [] (record { peer = p; text = bytes.now } ∷ []) []) }
+
         ensures not_sent { tells → OnErr result (trace self.new ≡ trace self.old) }
         ensures same_last { last self.new ≡ last self.old }
         ensures same_calls { calls self.new ≡ calls self.old }
+
         // A peer that is gone is a fault, and nothing else is.
         ensures counted { IsErrOf result SendFault.Gone → RoseBy (faults self.old) (faults self.new) 1 }
         ensures uncounted { OnOk result (faults self.new ≡ faults self.old) }
@@ -107,8 +112,10 @@ pub trait Link {
         ensures closed { tells → MatchBool (is_open (trace self.old) p)
             (GoesOn (trace self.old) (trace self.new) [] [] (record { peer = p; why = why } ∷ []))
             (trace self.new ≡ trace self.old) }
+
         ensures same_last { last self.new ≡ last self.old }
         ensures same_calls { calls self.new ≡ calls self.old }
+
         ensures uncounted { faults self.new ≡ faults self.old };
 
     /// A greater number is new.

@@ -8,10 +8,11 @@ use Rattle.el_row_formats.specs.Tables.{Tables, index_of, size_of, row_at}
 unfoldable pub rows_in_page : Table → ℕ
 rows_in_page t = 4096 / size_of t
 
--- the page that a row stands in, and its place there
+-- the number of the page that a row stands in; a table's rows and pages count from 0
 unfoldable pub page_of : Table → ℕ → ℕ
 page_of t i = i / rows_in_page t
 
+-- the row's place in that page, from 0
 unfoldable pub place_of : Table → ℕ → ℕ
 place_of t i = i % rows_in_page t
 
@@ -55,6 +56,8 @@ pub record IsWrittenTo (t : Table) (first rows : ℕ) (bytes : List ℕ) (u : Ta
   pub others : (place : ℕ) → place < rows_in_page u → (IsIn t first rows u (row_of u n place) → ⊥)
       → row_at (size_of u) new place ≡ row_at (size_of u) old place
 
+-- The same of all pages: each page of any table that is kept now was kept before, and has these rows and
+-- otherwise its own.
 abbrev pub IsWritten : KeptPages → KeptPages → Table → ℕ → ℕ → List ℕ → Type 0
 IsWritten old new t first rows bytes =
     (u : Table) (n : ℕ) (page : List ℕ) → page_in new u n ≡ Some page

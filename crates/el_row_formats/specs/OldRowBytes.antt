@@ -85,7 +85,7 @@ old_out_fields r state by =
     to_le_bytes w32 r.tx ++ (to_le_bytes w64 r.value ++ (to_le_bytes w32 r.script
     ++ (state ∷ to_le_bytes w32 by)))
 
--- an output
+-- the bytes of an output's row in format 1
 abbrev pub old_out_row_bytes : OutRow → List ℕ
 old_out_row_bytes r = old_out_fields r (state_number r.state) (state_by r.state)
 

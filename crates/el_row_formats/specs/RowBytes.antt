@@ -22,7 +22,7 @@ abbrev pub link_number : Option ℕ → ℕ
 link_number None = 0
 link_number (Some n) = n + 1
 
--- its eight bytes
+-- a link in eight bytes
 abbrev pub link_bytes : Option ℕ → List ℕ
 link_bytes link = to_le_bytes w64 (link_number link)
 
@@ -32,7 +32,7 @@ state_number state.Unspent = 0
 state_number (state.Spent by) = 1
 state_number (state.Buried by) = 2
 
--- and the transaction that spent or buried it, or 0
+-- the transaction that spent or buried the output, or 0 where none did
 abbrev pub state_by : State → ℕ
 state_by state.Unspent = 0
 state_by (state.Spent by) = by
@@ -95,7 +95,7 @@ out_fields r state by =
     to_le_bytes w64 r.tx ++ (to_le_bytes w64 r.value ++ (to_le_bytes w64 r.script
     ++ (state ∷ to_le_bytes w64 by)))
 
--- an output
+-- the bytes of an output's row
 abbrev pub out_row_bytes : OutRow → List ℕ
 out_row_bytes r = out_fields r (state_number r.state) (state_by r.state)
 

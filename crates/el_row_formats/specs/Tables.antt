@@ -26,7 +26,7 @@ index_of table.Entries = 7
 abbrev pub tables_of : List (List (List ℕ)) → Tables
 tables_of list t = get_or list (index_of t) []
 
--- and back
+-- the list of the eight tables, in the order of their places
 abbrev pub listed : Tables → List (List (List ℕ))
 listed tables = map tables
     (table.Blocks ∷ table.Txs ∷ table.TxHeads ∷ table.Outs

@@ -10,7 +10,7 @@ use Rattle.el_row_formats.specs.declared.table.Table.{Table}
 use Rattle.el_row_formats.specs.declared.table.RowKey.{RowKey}
 use Rattle.el_row_formats.specs.Tables.{Tables, index_of, key, size_of, limit_of, row_cmp}
 
--- changed rows
+-- changed rows: the key of each, and its new bytes
 abbrev pub Changes : Type 0
 Changes = List (RowKey × List ℕ)
 

@@ -8,7 +8,7 @@ pub record SizedRows : Type 0 where
   pub size : ℕ
   pub rows : List (List ℕ)
 
--- so many rows
+-- so many rows of that size, from the front of bytes
 unfoldable pub cut_rows : ℕ → List ℕ → ℕ → List (List ℕ)
 cut_rows size bytes count = map (row_at size bytes) (range_with_len 0 count)
 

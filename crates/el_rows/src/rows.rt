@@ -67,9 +67,11 @@ pub trait Rows {
         requires live { is_live self.old }
         requires below { i < counts self.old t }
         requires sized { length buf.old ≡ size_of t }
+
         ensures row { tells → OnOk result (buf.new ≡ get_or (lists self.old t) i []) }
         ensures reads { OnlyRead lists counts heads is_live
             (KeepsBelow tells_crash moment left_since beside) self.old self.new }
+
         ensures tick { reads self.new ≡ reads self.old + 1 }
         ensures cause { HasCause (faults self.old) (faults self.new) result };
 
@@ -78,9 +80,11 @@ pub trait Rows {
     fn commit(&mut self, sealed: &Sealed) -> Result<(), CommitFault>
         requires live { is_live self.old }
         requires made { IsMadeFrom (counts self.old) sealed.now.counts sealed.now.changes }
+
         ensures lists { tells → OnOk result
             (Same (under (lists self.old) sealed.now.counts sealed.now.changes) (lists self.new)) }
         ensures counts { OnOk result ((t : Table) → counts self.new t ≡ count_at sealed.now.counts t) }
+
         ensures live { OnOk result (is_live self.new) }
         ensures memory { IsErrOf result CommitFault.Memory
             → OnlyRead lists counts heads is_live
@@ -91,6 +95,7 @@ pub trait Rows {
         ensures beside { tells_crash → beside self.new ≡ beside self.old }
         ensures heads { heads self.new ≡ heads self.old }
         ensures idle { reads self.new ≡ reads self.old }
+
         ensures cause { CountsOnly (faults self.old) (faults self.new) CommitFault.DiskFailed result };
 
     /// The count is the lists' length where they are told.

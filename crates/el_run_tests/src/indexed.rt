@@ -6,7 +6,8 @@ use el_program::{Status, read_chain, serve_index};
 use el_trials::Part::Block;
 use el_trials::Step::{Opens, Says};
 use el_trials::{
-    Files, MAIN, REGTEST, Step, TURNS, expect_ended, steady_archive, steady_link, transcript,
+    Files, MAIN, REGTEST, Step, TURNS, expect_ended, relay_with, steady_archive, steady_link,
+    transcript,
 };
 use el_words::greatest_limits;
 use std::alloc::Global;
@@ -33,6 +34,7 @@ fn call<W: Threads + Sync>(
 ) -> Result<(Status, String), Fail> {
     let ledger = ledger_of(alloc, count)?;
     let mut archive = steady_archive(alloc, files)?;
+    let mut relay = relay_with(alloc, &[], &[])?;
     let mut link = steady_link(alloc, steps)?;
     let (status, _) = serve_index(
         rt,
@@ -40,7 +42,9 @@ fn call<W: Threads + Sync>(
         ledger,
         magic,
         greatest_limits(),
+        false,
         &mut archive,
+        &mut relay,
         &mut link,
         &NoPace,
         TURNS,

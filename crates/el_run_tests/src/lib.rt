@@ -2,6 +2,10 @@
 #![tactic(auto)]
 
 #[cfg(test)]
+mod audits;
+#[cfg(test)]
+mod broadcasts;
+#[cfg(test)]
 mod clients;
 #[cfg(test)]
 mod indexed;

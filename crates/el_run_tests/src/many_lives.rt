@@ -2,14 +2,14 @@
 ghost use Rattle.std.specs.Prelude.{◌≡◌};
 ghost use Rattle.el_program.specs.Lives.{IsLeftBy};
 
-use el_fakes::{SteadyArchive, SteadyLink};
+use el_fakes::{MemRelay, SteadyArchive, SteadyLink};
 use el_mem_disk::MemDisk;
 use el_outside::{Disk, NoPace};
 use el_program::{Between, Status, live};
 use el_trials::Step::Says;
 use el_trials::{
-    Files, NO_FILES, SERVE, TURNS, after_crash, fresh_disk, named, steady_archive, steady_link,
-    transcript, words_of,
+    Files, NO_FILES, SERVE, TURNS, after_crash, fresh_disk, named, relay_with, steady_archive,
+    steady_link, transcript, words_of,
 };
 use std::alloc::Global;
 use std::test::Fail;
@@ -51,6 +51,13 @@ fn archives(alloc: Global) -> Result<[SteadyArchive; 3], Fail> {
     Ok([first, second, steady_archive(alloc, NO_FILES)?])
 }
 
+// Their relays, which are asked nothing.
+fn relays(alloc: Global) -> Result<[MemRelay; 3], Fail> {
+    let first = relay_with(alloc, &[], &[])?;
+    let second = relay_with(alloc, &[], &[])?;
+    Ok([first, second, relay_with(alloc, &[], &[])?])
+}
+
 // What the node says in each.
 fn links(alloc: Global) -> Result<[SteadyLink; 3], Fail> {
     let first = steady_link(alloc, [Says(0, "tip {a0}\n")].as_slice())?;
@@ -69,6 +76,7 @@ fn three_lives<W: Threads + Sync>(
     let words = words_of(alloc, SERVE)?;
     let mut between = crashes_from(alloc, from)?;
     let mut archives = archives(alloc)?;
+    let mut relays = relays(alloc)?;
     let mut links = links(alloc)?;
     let mut ends = [Status::Usage; 3];
     let _ = live(
@@ -80,6 +88,7 @@ fn three_lives<W: Threads + Sync>(
         &NoPace,
         TURNS,
         archives.as_mut_slice(),
+        relays.as_mut_slice(),
         links.as_mut_slice(),
         ends.as_mut_slice(),
     );

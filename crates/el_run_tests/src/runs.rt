@@ -125,6 +125,61 @@ const RUNS: &[(&str, Files, &[Step<'static>], &str)] = &[
         "1 {none}\n0 at {a1} 1\n1 {lists}{entry0}{listed}\n1 {lists}{entry1}{listed}\n1 {invalid}\n\
          0 at {a16} 16\n1 {lists}{entry15}{listed}\n1 {lists}{entry16}{listed}\n",
     ),
+    // header proofs up to checkpoints, the same again, and after blocks were taken back
+    (
+        SERVE,
+        Files::Branch(17),
+        &[
+            Opens(1),
+            Says(0, "tip {a16}\n"),
+            Says(
+                1,
+                "{\"id\":1,\"method\":\"blockchain.block.header\",\"params\":[16,16]}\n{\"id\":1,\"\
+                 method\":\"blockchain.block.header\",\"params\":[3,15]}\n{\"id\":1,\"method\":\"bl\
+                 ockchain.block.header\",\"params\":[0,4]}\n{\"id\":1,\"method\":\"blockchain.block\
+                 .header\",\"params\":[3,15]}\n",
+            ),
+            Says(0, "tip {a3}\n"),
+            Says(
+                1,
+                "{\"id\":1,\"method\":\"blockchain.block.header\",\"params\":[3,3]}\n{\"id\":1,\"me\
+                 thod\":\"blockchain.block.header\",\"params\":[0,4]}\n",
+            ),
+        ],
+        "0 at {a15} 15\n0 at {a16} 16\n1 {\"id\":1,\"jsonrpc\":\"2.0\",\"result\":{\"branch\":[\"ac\
+         5e4656c439bba5a18104fd34b4aa8cc63d6595452db8305d88e628f62d06b8\",\"106102225e4dd3ea951f036\
+         c731cf994797d07d5ce8df7e0da09f9adffd6b3b2\",\"dee86c99331bf2e903af91f723bed73b1fc3bf6486b6\
+         6dcc898780fe1c4fe334\",\"c054b6ea4d1a9f60a5121ed10d397182e770efdf8a8b0e8fd98bf4442738506b\
+         \",\"9c89b37c2242836ee0674b838e2f3e1c39ab8753ce7538ad934d5200ea828cc1\"],\"header\":\"0100\
+         0000b83e87c803ffc25e61719fb7805cf5c5041f708fbb68ed9886ac063b1ab38dbf3f3ea262ef321903de0a53\
+         b33a8f0783403c13d80880ba61e5e9e078ec067021a9d05f49ffff7f2000000000\",\"root\":\"006395eb78\
+         d2f09d2250e7af56654838b2eba7cbaeef4981184e29528dfbfae1\"}}\n1 {\"id\":1,\"jsonrpc\":\"2.0\
+         \",\"result\":{\"branch\":[\"83dbd15955b4dd4fa735bba4cbf544a08e2ba273db1ac32812faf7d5d7944\
+         014\",\"134a84e39026a02c54b3c0ca522fae11a5529bd6ea2775bafdd3a77bd91ea8e4\",\"45240eee9eca4\
+         442f6d6b09141810f09e5d60f8e04f2dd9e2077183da3c7cb12\",\"cc589087f12b8aaceb99e2582dc8bd7944\
+         ca7866379f47112323fd1813370ef9\"],\"header\":\"01000000144094d7d5f7fa1228c31adb73a22b8ea04\
+         4f5cba4bb35a74fddb45559d1db8387b46d69a3e98bb988525c59363e72104edac5f15f47ca7be24dab4110ba7\
+         3b331b25f49ffff7f2000000000\",\"root\":\"9c89b37c2242836ee0674b838e2f3e1c39ab8753ce7538ad9\
+         34d5200ea828cc1\"}}\n1 {\"id\":1,\"jsonrpc\":\"2.0\",\"result\":{\"branch\":[\"ed9baeca366\
+         e96afe6116b0259364db174ac75fe93b186b369f3cf8a3f63eb96\",\"f6a91051b75a1854292a2e55e9bc400e\
+         cfb811bbd7b48067b46d85b62be5456c\",\"cc27fc2457c794ff31fcd08539e7a2b0eca04c73a44f29bbcd091\
+         b49b4fc5c87\"],\"header\":\"01000000000000000000000000000000000000000000000000000000000000\
+         00000000000945bac2381c001cb6dea0961a458e4b12a808f7b61b557e37da5a58c15c1cf029ab5f49ffff7f20\
+         00000000\",\"root\":\"b0c5a9b3a1939335d478ec5422909a8d65b5fc0c99d97118ad17692b8ed00f9b\"}}\
+         \n1 {\"id\":1,\"jsonrpc\":\"2.0\",\"result\":{\"branch\":[\"83dbd15955b4dd4fa735bba4cbf544\
+         a08e2ba273db1ac32812faf7d5d7944014\",\"134a84e39026a02c54b3c0ca522fae11a5529bd6ea2775bafdd\
+         3a77bd91ea8e4\",\"45240eee9eca4442f6d6b09141810f09e5d60f8e04f2dd9e2077183da3c7cb12\",\"cc5\
+         89087f12b8aaceb99e2582dc8bd7944ca7866379f47112323fd1813370ef9\"],\"header\":\"010000001440\
+         94d7d5f7fa1228c31adb73a22b8ea044f5cba4bb35a74fddb45559d1db8387b46d69a3e98bb988525c59363e72\
+         104edac5f15f47ca7be24dab4110ba73b331b25f49ffff7f2000000000\",\"root\":\"9c89b37c2242836ee0\
+         674b838e2f3e1c39ab8753ce7538ad934d5200ea828cc1\"}}\n0 at {a3} 3\n1 {\"id\":1,\"jsonrpc\":\
+         \"2.0\",\"result\":{\"branch\":[\"83dbd15955b4dd4fa735bba4cbf544a08e2ba273db1ac32812faf7d5\
+         d7944014\",\"134a84e39026a02c54b3c0ca522fae11a5529bd6ea2775bafdd3a77bd91ea8e4\"],\"header\
+         \":\"01000000144094d7d5f7fa1228c31adb73a22b8ea044f5cba4bb35a74fddb45559d1db8387b46d69a3e98\
+         bb988525c59363e72104edac5f15f47ca7be24dab4110ba73b331b25f49ffff7f2000000000\",\"root\":\"6\
+         c2d3bb77b9eb9a74155c4ec911462d1a076e7404e8ec53cbe666043f9c1038d\"}}\n1 {\"error\":{\"code\
+         \":1,\"message\":\"bad checkpoint\"},\"id\":1,\"jsonrpc\":\"2.0\"}\n",
+    ),
     // the node's bytes are none of a client's, and a client's are none of the node's
     (
         SERVE,

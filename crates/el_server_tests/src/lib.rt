@@ -9,6 +9,8 @@ mod failing_rows;
 #[cfg(test)]
 mod failures;
 #[cfg(test)]
+mod fees;
+#[cfg(test)]
 mod lines;
 #[cfg(test)]
 mod names;

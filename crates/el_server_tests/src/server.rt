@@ -10,7 +10,8 @@ use crate::names::named;
 use el_base::{Bytes, Hash32};
 use el_block::Block;
 use el_core::{Outs, Server};
-use el_fakes::MemArchive;
+use el_fakes::{MemArchive, MemRelay};
+use el_fees::FeeTable;
 use el_gen::{
     BLOCK_1, BLOCK_1_HASH, EMPTY_SCRIPT_HASH, GENESIS, GENESIS_HASH, GENESIS_SCRIPT_HASH,
     GENESIS_TXID, HEADER_0, HEADER_1, block, block_bytes, coinbase, spend,
@@ -22,6 +23,7 @@ use el_mempool::PoolLimits;
 use el_model::Ledger;
 use el_outside::{Arrival, NoPace, Peer, Why};
 use el_pool::Pool;
+use el_relay::Desk;
 use el_side::{Caches, Holdings};
 use el_sync::StepFault;
 use el_tx::{Outpoint, Tx, block_hash, encode_header, encode_tx, txid};
@@ -229,8 +231,10 @@ fn work_off<W: Threads + Sync>(
     ensures numbers { (last : ℕ) → AreUpTo last server.old.clients
         → OnOk result (AreUpTo last server.new.clients) }
 {
+    let alloc = *shown.allocator();
+    let mut relay = MemRelay::new(alloc, Vec::new(alloc), Vec::new(alloc));
     loop {
-        match server.turn(rt, archive, &NoPace) {
+        match server.turn(rt, archive, &NoPace, &mut relay) {
             Ok(Some(outs)) => show(&outs, shown)?,
             Ok(None) => return Ok(None),
             Err(fault) => return Ok(Some(fault)),
@@ -338,13 +342,15 @@ fn begun(alloc: Global, ledger: Tested, limits: PoolLimits, file: &[u8]) -> Resu
     ensures numbers { IfOk result (λ run. AreUpTo run.last run.server.clients) }
 {
     let archive = archive_of(alloc, file, 0)?;
+    let desk = Desk::new(alloc, false)?;
     let holdings = Holdings {
         tree: HeaderTree::new(alloc),
         magic: MAGIC,
         pool: Pool::new(alloc, limits),
+        fees: FeeTable::new(),
     };
     Ok(Run {
-        server: Server::new(alloc, ledger, holdings, Caches::new(alloc)),
+        server: Server::new(alloc, ledger, holdings, Caches::new(alloc), desk),
         archive,
         last: 0,
         shown: Vec::new(alloc),

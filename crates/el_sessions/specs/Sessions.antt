@@ -13,7 +13,7 @@ Subscription = Hash32 × Option Hash32
 abbrev pub is_to : Hash32 → Subscription → Bool
 is_to s sub = bytes_eq s.0 sub.0.0
 
--- it is among those
+-- one of the subscriptions is to that script hash
 abbrev pub is_subscribed : Hash32 → List Subscription → Bool
 is_subscribed s subs = list_any (is_to s) subs
 
@@ -35,6 +35,6 @@ pub record Edits (was now : List Subscription) : Type 0 where
   pub keys : keys_of now ≡ filter (not_among dropped) (keys_of was) ++ added
   pub none_dropped : dropped ≡ []
 
--- something was added
+-- the client has subscribed to a script hash more
 abbrev pub HasAdded : List Subscription → List Subscription → Type 0
 HasAdded was now = (edits : Edits was now) × (edits.added ≢ [])

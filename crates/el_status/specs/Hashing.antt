@@ -3,7 +3,7 @@ use Rattle.std.specs.Prelude.{◌≡◌, ℕ, Bool, true, false, List, [], ◌�
 use Rattle.sha2.specs.Hashers.{Holds256}
 use Rattle.el_status.specs.declared.hashing.StatusHash.{StatusHash}
 
--- there is any text
+-- the text isn't empty
 abbrev pub is_any : List ℕ → Bool
 is_any [] = false
 is_any (b ∷ bs) = true

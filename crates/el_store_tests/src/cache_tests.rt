@@ -5,8 +5,8 @@ use el_row_formats::Table;
 use std::alloc::Global;
 use std::test::Fail;
 
-// Tables, rows, and the first row of each's page. A page of 4,096 bytes has 35 rows, 48, 512, 124, 512, 64, 512
-// or 170, by the table.
+// Tables, rows, and the first row of each's page. A page of 4,096 bytes has 35 rows, 48, 512, 124, 512, 64,
+// 512 or 170, by the table.
 const FIRSTS: &[(Table, u64, u64)] = &[
     (Table::Blocks, 34, 0),
     (Table::Blocks, 35, 35),

@@ -29,8 +29,8 @@ pub const FIRST_FILE: u32 = 20;
 /// The redo file, which is the last of an index's ten files.
 pub const REDO: u32 = 29;
 
-/// How many bytes the meta file has with the first of these rows, and the tables' files, whose rows have 116, 84,
-/// 8, 33, 8, 64, 8 and 24 bytes.
+/// How many bytes the meta file has with the first of these rows, and the tables' files, whose rows have 116,
+/// 84, 8, 33, 8, 64, 8 and 24 bytes.
 pub const SIZES: [usize; 9] = [80, 232, 252, 524_288, 132, 16, 192, 524_288, 120];
 
 /// The bytes from a place on, up to another one; none where there are fewer.

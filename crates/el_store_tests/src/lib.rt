@@ -22,6 +22,8 @@ mod folder_tests;
 #[cfg(test)]
 mod link_tests;
 #[cfg(test)]
+mod migration_tests;
+#[cfg(test)]
 mod opening_tests;
 #[cfg(test)]
 mod page_tests;

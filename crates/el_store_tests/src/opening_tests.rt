@@ -81,9 +81,9 @@ fn cut(alloc: Global, file: u32, len: u64) -> Result<MemDisk, Fail> {
     Ok(disk.into_disk())
 }
 
-// Bytes of the meta row that are changed, and what then is found: letters; the format; the network; a number of
-// bits that may not be; tables of heads that have too many rows or too few for it; counts above the limit; counts
-// of more rows than there are bytes.
+// Bytes of the meta row that are changed, and what then is found: letters; the format; the network; a number
+// of bits that may not be; tables of heads that have too many rows or too few for it; counts above the limit;
+// counts of more rows than there are bytes.
 const PATCHES: &[(u64, &[u8], Option<Bad>)] = &[
     (0, b"F", Some((20, 1_481_198_661, 1_481_198_662))),
     (3, b"Y", Some((20, 1_481_198_661, 1_497_975_877))),
@@ -221,8 +221,8 @@ fn redo_file(alloc: Global, gate: u8, len: u64, changes: &[u8]) -> Result<Vec<u8
     Ok(file)
 }
 
-// A disk with this redo file, the meta row of two inputs, heads, and files of two inputs and three bytes more, and
-// of one script less a byte.
+// A disk with this redo file, the meta row of two inputs, heads, and files of two inputs and three bytes
+// more, and of one script less a byte.
 fn with_redo(alloc: Global, redo: &[u8]) -> Result<MemDisk, Fail> {
     let mut disk = blank(alloc);
     put_file(&mut disk, FIRST_FILE, TWO_INPUTS)?;

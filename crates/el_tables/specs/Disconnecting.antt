@@ -12,7 +12,7 @@ but_last [] = []
 but_last (x ∷ []) = []
 but_last (x ∷ y ∷ xs) = x ∷ but_last (y ∷ xs)
 
--- the last member
+-- the last member, if there is one
 abbrev pub last : {X : Type 0} → List X → Option X
 last [] = None
 last (x ∷ []) = Some x

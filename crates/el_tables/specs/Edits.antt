@@ -12,10 +12,11 @@ use Rattle.el_tables.specs.Tables.{TxRow, ScriptRow, EntryRow, Tables, bucket_in
 
 -- 1. Rows and heads by number
 
--- what stands for a row after the last one; no step reads it
+-- what stands for an output after the last one; no step reads it
 abbrev pub no_out : ListedOut
 no_out = record { tx = 0; value = 0; script = 0; state = Unspent }
 
+-- what stands for a script's row after the last one; no step reads it either
 abbrev pub no_row : ScriptRow
 no_row = record { script = zero_hash; next = None; last = None; entries = 0; balance = 0 }
 
@@ -126,7 +127,7 @@ entry_dropped (Some e) tb = entry_by e.before e tb
 abbrev pub less : ℕ → ScriptRow → ScriptRow
 less value r = record r { balance = r.balance - value }
 
--- with a higher one
+-- the script hash's row with a higher balance
 abbrev pub more : ℕ → ScriptRow → ScriptRow
 more value r = record r { balance = r.balance + value }
 
@@ -134,7 +135,7 @@ more value r = record r { balance = r.balance + value }
 abbrev pub less_at : ℕ → ℕ → Tables → List ScriptRow
 less_at n value tb = set tb.scripts n (less value (row_of n tb))
 
--- where it is higher
+-- the rows of script hashes where the balance of that number is higher
 abbrev pub more_at : ℕ → ℕ → Tables → List ScriptRow
 more_at n value tb = set tb.scripts n (more value (row_of n tb))
 
@@ -165,7 +166,7 @@ abbrev pub buried : ℕ → Option ℕ → Tables → Tables
 buried by None tb = tb
 buried by (Some k) tb = coin_gone (Buried by) k tb
 
--- a new output
+-- a row of a new output, which is unspent
 abbrev pub new_out : ℕ → ℕ → ℕ → ListedOut
 new_out tx value script = record { tx = tx; value = value; script = script; state = Unspent }
 
@@ -195,20 +196,20 @@ abbrev pub given_back : Option ℕ → Tables → Tables
 given_back None tb = tb
 given_back (Some k) tb = if is_spent (out_row k tb).state then coin_back k tb else tb
 
--- the last input less
+-- the tables without the last input, whose output is unspent again
 abbrev pub input_dropped : Tables → Tables
 input_dropped tb = record (given_back (last tb.ins) tb) { ins = but_last tb.ins }
 
 -- 5. Blocks, and heads before the first block
 
--- so many links to nothing
+-- so many heads without a link: no row is in any bucket
 abbrev pub no_links : ℕ → List (Option ℕ)
 no_links count = replicate count None
 
--- other heads
+-- the tables with these rows of heads
 abbrev pub with_heads : List (Option ℕ) → List (Option ℕ) → Tables → Tables
 with_heads txs scripts tb = record tb { tx_heads = txs; script_heads = scripts }
 
--- other blocks
+-- the tables with these blocks
 abbrev pub with_blocks : List ListedBlock → Tables → Tables
 with_blocks bs tb = record tb { blocks = bs }

@@ -2,9 +2,8 @@
 -- each.
 --
 -- Block 0: A, a coinbase, pays 50 to P. Block 1: A again, byte for byte (as the coinbases that BIP 30 tells
--- of): its output buries the first one.          B spends the output of the second A, and pays 20 to P and
--- 30 to Q. It spends and funds P: one entry.          C spends output 0 of B, which the same block made, and
--- pays 20 to R.
+-- of): its output buries the first one. B spends the output of the second A, and pays 20 to P and 30 to Q. It
+-- spends and funds P: one entry. C spends output 0 of B, which the same block made, and pays 20 to R.
 use Rattle.std.specs.Prelude.{ℕ, List, [], ◌∷◌, Some, None, pos}
 use Rattle.el_base.specs.declared.hash.Hash32.{Hash32}
 use Rattle.el_tx.specs.declared.types.Header.{Header}
@@ -20,37 +19,44 @@ use Rattle.el_tables.specs.Lists.{ListedTx, Lists}
 use Rattle.el_tables.specs.Lists.State.{Unspent, Spent, Buried}
 use Rattle.el_tables.specs.Tables.{Tables, HeadCounts}
 
--- an output with a script of that one byte, and an input that spends an outpoint
+-- an output of that value, with a script of that one byte
 abbrev pub pays : ℕ → ℕ → TxOut
 pays value script = record { value = value; script = script ∷ [] }
 
+-- an input that spends an outpoint, without script and witness
 abbrev pub spends : Outpoint → TxIn
 spends o = record { from = o; script = []; sequence = 0; witness = [] }
 
+-- a transaction of one input and these outputs
 abbrev pub tx_with : TxIn → List TxOut → Tx
 tx_with input outputs = record { version = pos 1; inputs = input ∷ []; outputs = outputs; lock = 0 }
 
+-- the outpoint of its first output
 abbrev pub first_of : Tx → Outpoint
 first_of t = record { txid = txid t; index = 0 }
 
--- the transactions, of 61, 71 and 61 bytes
+-- A, a coinbase of 61 bytes: it pays 50 to P
 abbrev pub tx_a : Tx
 tx_a = tx_with (spends no_outpoint) (pays 50 81 ∷ [])
 
+-- B, of 71 bytes: it spends the output of the second A, and pays 20 to P and 30 to Q
 abbrev pub tx_b : Tx
 tx_b = tx_with (spends (first_of tx_a)) (pays 20 81 ∷ pays 30 82 ∷ [])
 
+-- C, of 61 bytes: it spends the first output of B, and pays 20 to R
 abbrev pub tx_c : Tx
 tx_c = tx_with (spends (first_of tx_b)) (pays 20 83 ∷ [])
 
--- The script hashes. Of two buckets, that of the txid of A is 0, those of B and C are 1; those of P and Q
+-- The script hash of P. Of two buckets, that of the txid of A is 0, those of B and C are 1; those of P and Q
 -- are 0, that of R is 1.
 abbrev pub hash_p : Hash32
 hash_p = output_script (pays 0 81)
 
+-- the script hash of Q
 abbrev pub hash_q : Hash32
 hash_q = output_script (pays 0 82)
 
+-- the script hash of R
 abbrev pub hash_r : Hash32
 hash_r = output_script (pays 0 83)
 
@@ -65,6 +71,7 @@ header nonce = record {
   nonce = nonce;
 }
 
+-- the two blocks, and where they stand in a block file
 abbrev pub example_chain : Chain
 example_chain =
     record {
@@ -90,6 +97,8 @@ tx_of t height start len first_out outs first_in ins = record {
   ins = ins;
 }
 
+-- The lists of that chain, by number: its four transactions, their five outputs with what became of each, the
+-- two outputs that inputs took, the three scripts, and the six entries of their histories.
 abbrev pub example_lists : Lists
 example_lists = record {
   txs =
@@ -117,9 +126,11 @@ example_lists = record {
       ∷ [];
 }
 
+-- a format of two heads of transactions and two of scripts
 abbrev pub two_heads : HeadCounts
 two_heads = record { txs = 2; scripts = 2 }
 
+-- the tables of these lists: each row with its links, and the heads of both buckets
 abbrev pub example_tables : Tables
 example_tables = record {
   blocks =

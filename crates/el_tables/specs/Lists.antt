@@ -50,7 +50,7 @@ pub record Lists : Type 0 where
   pub scripts : List Hash32
   pub entries : List ListedEntry
 
--- those of no blocks
+-- the lists of a chain without blocks
 abbrev pub no_lists : Lists
 no_lists = record { txs = []; outs = []; ins = []; scripts = []; entries = [] }
 
@@ -85,7 +85,7 @@ txid_at tx txs = get_or (map (λ (t : ListedTx). t.txid) txs) tx zero_hash
 abbrev pub first_out_at : ℕ → List ListedTx → ℕ
 first_out_at tx txs = get_or (map (λ (t : ListedTx). t.first_out) txs) tx 0
 
--- one transaction more
+-- the lists with one transaction more
 abbrev pub add_tx : ListedTx → Lists → Lists
 add_tx t l = record l { txs = l.txs ++ t ∷ [] }
 
@@ -106,7 +106,7 @@ last_tx_of script [] = None
 last_tx_of script (e ∷ es) =
     option_or (last_tx_of script es) (if is_of_script script e then Some e.tx else None)
 
--- it is that transaction
+-- the number that was found is that of the transaction
 abbrev pub is_tx : ℕ → Option ℕ → Bool
 is_tx tx None = false
 is_tx tx (Some n) = n == tx

@@ -48,7 +48,7 @@ pub record HeadCounts : Type 0 where
   pub txs : ℕ
   pub scripts : ℕ
 
--- so many each
+-- both tables of heads have so many rows
 abbrev pub in_both : ℕ → HeadCounts
 in_both count = record { txs = count; scripts = count }
 

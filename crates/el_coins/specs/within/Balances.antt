@@ -8,7 +8,7 @@ abbrev pub own_value : List ℕ → Option Coin → ℕ
 own_value script_hash None = 0
 own_value script_hash (Some c) = if bytes_eq c.script.0 script_hash then c.value else 0
 
--- what these hold together
+-- what the coins that have the script hash hold together
 abbrev pub own_values : List ℕ → List (Option Coin) → ℕ
 own_values script_hash [] = 0
 own_values script_hash (c ∷ cs) = own_value script_hash c + own_values script_hash cs

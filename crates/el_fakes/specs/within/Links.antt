@@ -17,6 +17,7 @@ trace_of a = record {
   closings = map closing_of a.closed.items;
 }
 
+-- the trace so far, what is still to come, and how many calls were made
 abbrev pub state_of : Inside → SteadyState
 state_of a = record { trace = trace_of a; coming = steps_from a.spot a.coming.items; calls = a.calls }
 

@@ -18,6 +18,7 @@ step_left given (step.Bytes p bytes) = step.Bytes p (drop given bytes)
 step_left given (step.Closed p) = step.Closed p
 step_left given step.Quiet = step.Quiet
 
+-- the steps, of which the first lacks the bytes that were handed over
 abbrev pub steps_left : ℕ → List Coming → List Coming
 steps_left given [] = []
 steps_left given (c ∷ cs) = step_left given c ∷ cs

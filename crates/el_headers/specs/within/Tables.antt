@@ -35,12 +35,13 @@ open_count [] = 0
 open_count (None ∷ heights) = open_count heights + 1
 open_count (Some height ∷ heights) = open_count heights
 
--- the node with that number is there and not attached
+-- what stands there is the height of a node, and the height isn't known
 abbrev pub is_open_height : Option (Option ℕ) → Bool
 is_open_height None = false
 is_open_height (Some None) = true
 is_open_height (Some (Some height)) = false
 
+-- the node with that number is there and not attached
 abbrev pub is_open : List (Option ℕ) → ℕ → Bool
 is_open heights i = is_open_height (slice_get heights i)
 
@@ -85,7 +86,7 @@ pub record AreHeights (nodes : List Node) (heights : List (Option ℕ)) (stack :
   pub low : (i height : ℕ) → slice_get heights i ≡ Some (Some height)
       → height + open_count heights < length heights
 
--- no pair is left
+-- no pair of a child and its parent is left
 abbrev pub NoneLeft : ℕ → ℕ → Type 0
 NoneLeft i j = ⊥
 
@@ -140,7 +141,7 @@ IsHeight nodes heights n None = (names_none n ≡ false)
 IsHeight nodes heights n (Some zero) = names_none n ≡ true
 IsHeight nodes heights n (Some (suc height)) = (names_none n ≡ false) × HasParent nodes heights n height
 
--- it is the genesis
+-- that height is the genesis'
 abbrev pub is_lowest : Option ℕ → Bool
 is_lowest None = false
 is_lowest (Some zero) = true

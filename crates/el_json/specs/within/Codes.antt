@@ -4,10 +4,12 @@ use Rattle.std.specs.Coded.{Coded, coded_ℕ, coded_bool, coded_ℤ, coded_list}
 use base.Stored.{Gv, gnil, gnum, gcons, coded_float}
 use Rattle.serde_json.specs.Data.{Num, unsigned, negative, float, Data, null, boolean, number, string, array, object, Items, no_items, item, Members, no_members, member}
 
+-- the first part of a code that has two
 abbrev head : Gv → Gv
 head (gcons a b) = a
 head g = gnil
 
+-- the second part of a code that has two
 abbrev tail : Gv → Gv
 tail (gcons a b) = b
 tail g = gnil
@@ -17,23 +19,29 @@ abbrev tag : Gv → ℕ
 tag (gcons (gnum n) b) = n
 tag g = 0
 
+-- the code of a text: its bytes as a list of numbers
 abbrev coded_text : Coded (List ℕ)
 coded_text = coded_list coded_ℕ
 
+-- the code of a number: which kind it is (0: from 0 on, 1: below 0, 2: a float), and its own code
 abbrev num_code : Num → Gv
 num_code (unsigned a) = gcons (gnum 0) (coded_ℕ.code a)
 num_code (negative a) = gcons (gnum 1) (coded_ℤ.code a)
 num_code (float a) = gcons (gnum 2) (coded_float.code a)
 
+-- numbers with the same code are the same
 pub num_inj : (x y : Num) → num_code x ≡ num_code y → x ≡ y
 num_inj (unsigned a) (unsigned b) p = λ i. unsigned (coded_ℕ.inj a b (ap (λ g. tail g) p) i)
 num_inj (negative a) (negative b) p = λ i. negative (coded_ℤ.inj a b (ap (λ g. tail g) p) i)
 num_inj (float a) (float b) p = λ i. float (coded_float.inj a b (ap (λ g. tail g) p) i)
 num_inj x y p = let q = ap (λ g. tag g) p in absurd (omega (arith, q))
 
+-- the code of a number, and that no two have the same
 abbrev coded_num : Coded Num
 coded_num = record { code = num_code; inj = num_inj }
 
+-- The codes of a value, of the elements of an array and of the members of an object: first a number for the
+-- kind, and then the codes of the parts.
 abbrev mutual
   data_code : Data → Gv
   data_code null = gcons (gnum 1) gnil
@@ -52,6 +60,7 @@ abbrev mutual
   members_code (member k d ms) =
       gcons (gnum 1) (gcons (coded_text.code k) (gcons (data_code d) (members_code ms)))
 
+-- values with the same code are the same, and so are elements and members
 mutual
   pub data_inj : (x y : Data) → data_code x ≡ data_code y → x ≡ y
   data_inj null null p = refl
@@ -76,14 +85,18 @@ mutual
       (members_inj ms es (ap (λ g. tail (tail (tail g))) p) i)
   members_inj x y p = let q = ap (λ g. tag g) p in absurd (omega (arith, q))
 
+-- the code of a value, and that no two have the same
 abbrev pub coded_data : Coded Data
 coded_data = record { code = data_code; inj = data_inj }
 
+-- the code of the elements of an array, and that no two have the same
 abbrev pub coded_items : Coded Items
 coded_items = record { code = items_code; inj = items_inj }
 
+-- the code of the members of an object, and that no two have the same
 abbrev pub coded_members : Coded Members
 coded_members = record { code = members_code; inj = members_inj }
 
+-- the code of a list of values, and that no two have the same
 abbrev pub coded_list_of_data : Coded (List Data)
 coded_list_of_data = coded_list coded_data

@@ -16,6 +16,6 @@ pub record IsLight (b : Placed) : Type 0 where
 abbrev pub HasFewOutputs : Tx → Type 0
 HasFewOutputs t = length t.outputs ≤ MAX_BLOCK_WEIGHT
 
--- so has each of the block's
+-- no transaction of the block has more outputs than a block weighs
 abbrev pub HaveFewOutputs : Placed → Type 0
 HaveFewOutputs b = AllByRecursion HasFewOutputs b.block.txs

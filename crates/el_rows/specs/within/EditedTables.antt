@@ -83,7 +83,7 @@ pub record AreEdited (base counts : List ℕ) (tables : List EditedTable) : Type
 abbrev pub rows_at : List (List ℕ) → Table → List ℕ
 rows_at rows t = get_or rows (index_of t) []
 
--- the tables in order
+-- the eight tables, in the order of their places
 abbrev pub all_tables : List Table
 all_tables = table.Blocks ∷ table.Txs ∷ table.TxHeads ∷ table.Outs
     ∷ table.Ins ∷ table.Scripts ∷ table.ScriptHeads ∷ table.Entries ∷ []

@@ -39,6 +39,7 @@ left_row before r = record {
   balance = r.balance;
 }
 
+-- the row of a script's new entry, which links to the last one before it
 abbrev pub new_entry : ℕ → ℕ → Option ℕ → EntryRow
 new_entry tx script before = record { tx = tx; script = script; before = before }
 
@@ -70,7 +71,7 @@ pub record EntryMore (script : ℕ) (row : ScriptRow) (before : Option ℕ) (tx 
   pub few_entries : length (old table.Entries) < limit_of table.Entries
   pub entry_fits : FitsEntryRow (new_entry tx script before)
 
--- all other tables stay
+-- all tables stay but those of scripts, of their heads and of entries
 abbrev pub ThreeStay : Tables → Tables → Type 0
 ThreeStay old new = (u : Table) → (u ≡ table.Scripts → ⊥) → (u ≡ table.ScriptHeads → ⊥)
     → (u ≡ table.Entries → ⊥) → new u ≡ old u

@@ -29,7 +29,8 @@ pub record CanUndo (l : Lists) : Type 0 where
 abbrev pub CanUndoAll : ℕ → Lists → Type 0
 CanUndoAll count l = (k : ℕ) → k < count → CanUndo (times k disconnect_tx l)
 
--- The rows hold the blocks of a chain with one more, and the lists of the chain without it, with so many heads.
+-- The rows hold the blocks of a chain with one more, and the lists of the chain without it, with so many
+-- heads.
 pub record LacksTxs (heads : ℕ) (rows : held.Tables) (chain : Chain) (b : Placed) : Type 0 where
   pub some : 0 < heads
   pub good : IsGood chain

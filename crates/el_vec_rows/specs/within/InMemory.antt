@@ -5,13 +5,15 @@ use Rattle.el_row_formats.specs.Tables.{Tables, index_of, size_of, limit_of}
 use Rattle.el_rows.specs.Changes.{Changes, changed_at, count_at}
 use Rattle.el_rows.specs.SizedRows.{SizedRows, HasGrown}
 
--- the list that is kept of a table, and its rows
+-- what stands for the list of a table that isn't there
 abbrev pub no_list : SizedRows
 no_list = record { size = 0; rows = [] }
 
+-- the list that is kept of a table
 abbrev pub list_of : List SizedRows → Table → SizedRows
 list_of kept t = get_or kept (index_of t) no_list
 
+-- the tables that the lists hold
 abbrev pub kept_of : List SizedRows → Tables
 kept_of kept t = (list_of kept t).rows
 
