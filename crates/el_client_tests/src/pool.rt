@@ -226,7 +226,7 @@ fn drops(pool: &mut Pool, txid: &str, scripts: &[&str]) -> bool {
 }
 
 fn moves(world: &mut World, scripts: &[&str]) -> bool {
-    match world.pool.after_move(&mut world.ledger) {
+    match world.pool.after_move(&mut world.ledger, None) {
         Ok(touched) => are(&touched, scripts),
         Err(_) => false,
     }

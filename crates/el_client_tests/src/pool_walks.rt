@@ -13,6 +13,7 @@ use el_mempool::{Held, PoolEntry, PoolLimits};
 use el_model::Ledger;
 use el_plain::PlainLedger;
 use el_pool::Pool;
+use el_sift::Reach;
 use el_tx::{Outpoint, Tx, txid};
 use std::alloc::Global;
 use std::process::Abort;
@@ -770,29 +771,77 @@ fn build_ledger(walk: &mut Walk) {
     walk.ledger = ledger_of(walk.alloc, walk.all.as_slice(), walk.blocks.as_slice());
 }
 
+// The script hash of the output that the outpoint names: a transaction's, or a coinbase's.
+fn script_at(all: &[Made], outpoint: &Outpoint) -> Hash32 {
+    for made in all {
+        if made.txid == outpoint.txid {
+            if let Some(held) = output_at(made, outpoint.index) {
+                return held.script;
+            }
+        }
+    }
+    script_hash(101)
+}
+
+// Adds the script hashes of what the transaction makes and takes.
+fn touch_made(all: &[Made], made: &Made, touched: &mut Touched) -> Result<(), OutOfMemory> {
+    touched.add(held(made.to).script)?;
+    if let Some(held) = also_held(made) {
+        touched.add(held.script)?;
+    }
+    touched.add(script_at(all, &made.first))?;
+    if let Some(second) = made.second {
+        touched.add(script_at(all, &second))?;
+    }
+    Ok(())
+}
+
+// The transaction that a block has beside its coinbase, if it has one.
+fn made_in(walk: &Walk, place: Option<usize>) -> Option<Made> {
+    walk.all.as_slice().get(place?).copied()
+}
+
+// Adds those of a block that comes or goes.
+fn touch_block(walk: &Walk, place: Option<usize>, touched: &mut Touched) -> bool {
+    if touched.add(script_hash(101)).is_err() {
+        return false;
+    }
+    match made_in(walk, place) {
+        Some(made) => touch_made(walk.all.as_slice(), &made, touched).is_ok(),
+        None => true,
+    }
+}
+
 // Adds a block.
-fn add_block(walk: &mut Walk) -> bool {
+fn add_block(walk: &mut Walk, touched: &mut Touched) -> bool {
     let place = some_block(walk);
     if walk.blocks.push(place).is_err() {
         return false;
     }
     build_ledger(walk);
-    true
+    touch_block(walk, place, touched)
 }
 
 // Takes a block back where there are some, and chance will have it.
-fn takes_back(walk: &mut Walk) -> bool {
+fn takes_back(walk: &mut Walk, touched: &mut Touched) -> bool {
     let back = walk.blocks.len() > 4 && random(&mut walk.seed, 3) == 0;
     if back {
-        walk.blocks.pop();
-        build_ledger(walk);
+        if let Some(place) = walk.blocks.pop() {
+            build_ledger(walk);
+            return touch_block(walk, place, touched);
+        }
     }
     back
 }
 
-// Whether both lists are the same after a move.
-fn moves_both(walk: &mut Walk, before: &[Seen]) -> bool {
-    match walk.pool.after_move(&mut walk.ledger) {
+// Whether both lists are the same after a move that left so many blocks and touched these script hashes;
+// chance says whether the set is told how far it reached.
+fn moves_both(walk: &mut Walk, before: &[Seen], same: u64, touched: &Touched) -> bool {
+    let reach = match random(&mut walk.seed, 2) {
+        0 => None,
+        _ => Some(Reach { same, touched }),
+    };
+    match walk.pool.after_move(&mut walk.ledger, reach) {
         Ok(touched) => {
             walk.fees.follow(walk.pool.last_changes());
             sift_list(walk) && agrees(walk, before, &touched)
@@ -803,8 +852,11 @@ fn moves_both(walk: &mut Walk, before: &[Seen]) -> bool {
 
 // A block comes, or one goes, and now and then another comes in its place.
 fn moves(walk: &mut Walk, before: &[Seen]) -> bool {
-    let comes = !takes_back(walk) || random(&mut walk.seed, 2) == 0;
-    (!comes || add_block(walk)) && moves_both(walk, before)
+    let mut touched = Touched::new(walk.alloc);
+    let back = takes_back(walk, &mut touched);
+    let same = walk.blocks.len().min(100) as u64;
+    let comes = !back || random(&mut walk.seed, 2) == 0;
+    (!comes || add_block(walk, &mut touched)) && moves_both(walk, before, same, &touched)
 }
 
 // A step that chance names, over what was seen before.

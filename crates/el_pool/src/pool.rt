@@ -12,6 +12,7 @@ ghost use Rattle.el_mempool.specs.Sift.{sift, other_than};
 ghost use Rattle.el_mempool.specs.Unconfirmed.{pool_history, pool_unspent};
 ghost use Rattle.el_mempool.specs.Fees.{AreFeeChanges, FitTogether};
 ghost use Rattle.el_mempool.specs.Standing.{StandsFor, AreChanged, has_entry, kept_tx};
+ghost use Rattle.el_sift.specs.Untouched.{KeepsUntouched};
 
 use el_base::{Hash32, OutOfMemory};
 use el_chain::{Coin, Touched};
@@ -19,7 +20,7 @@ use el_join::{add_to, drop_from};
 use el_kept::{Listing, Table, empty_table, entries_at, kept_under, outs_at, taker_in};
 use el_mempool::{FeeChange, KeptTx, PoolEntry, PoolFault, PoolLimits};
 use el_model::{Ledger, QueryFault};
-use el_sift::sift_table;
+use el_sift::{Reach, sift_table};
 use el_tx::Outpoint;
 use std::alloc::Global;
 use std::collections::BTreeSet;
@@ -136,21 +137,29 @@ impl Pool {
         )
     }
 
-    /// Keeps what the sift keeps over the ledger's chain, whichever that now is, and gives the script
-    /// hashes that changed since the set stood for another one.
+    /// Keeps what the sift keeps over the ledger's chain, and gives the script hashes that changed since the
+    /// set stood for another one. Without a reach each kept transaction is asked for anew, whichever chain
+    /// that was; with one, which the moves since then don't pass, what they don't reach stays as it was and
+    /// isn't asked for.
     ///
     /// # Errors
     ///
     /// `DiskFailed`, `Memory`; then the set is not used again.
-    pub fn after_move<G: Ledger>(&mut self, ledger: &mut G) -> Result<Touched, QueryFault>
+    pub fn after_move<G: Ledger>(
+        &mut self,
+        ledger: &mut G,
+        reach: Option<Reach<'_>>,
+    ) -> Result<Touched, QueryFault>
         requires live { G.is_live ledger.old }
 
         ensures sifted { (before chain : Chain) (kept : List shape.Tx)
             → StandsFor self.old.entries before kept → G.stands ledger.old chain
+            → IfSome reach.entry (λ r. KeepsUntouched before chain r.same r.touched.now)
             → IfOk result (λ touched. StandsFor self.new.entries chain (sift chain kept)
             × AreChanged before kept chain (sift chain kept) touched) }
         ensures fees { (before chain : Chain) (kept : List shape.Tx)
             → StandsFor self.old.entries before kept → G.stands ledger.old chain
+            → IfSome reach.entry (λ r. KeepsUntouched before chain r.same r.touched.now)
             → OnOk result (AreFeeChanges self.old.entries self.new.entries self.new.changes) }
 
         ensures limits { self.new.limits ≡ self.old.limits }
@@ -164,6 +173,7 @@ impl Pool {
             &mut self.listings,
             &mut self.changes,
             ledger,
+            reach,
         )
     }
 

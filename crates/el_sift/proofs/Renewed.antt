@@ -109,7 +109,7 @@ take_is before chain all kept (i ∷ is) h = by (named before all i.from) h.0 (t
     by None none more = absurd (true≢false (sym none))
     by (Some v) some more = ap (λ b. is_some (named chain kept i.from) && b) more
 
-takes_is : (chain : Chain) (kept : List Tx) (is : List TxIn) → each_takes chain kept is ≡ (each_named chain kept is && each_free kept is)
+pub takes_is : (chain : Chain) (kept : List Tx) (is : List TxIn) → each_takes chain kept is ≡ (each_named chain kept is && each_free kept is)
 takes_is chain kept [] = refl
 takes_is chain kept (i ∷ is) =
     ap (λ b. (is_some (named chain kept i.from) && not (is_taken i.from kept)) && (not (any_takes i.from is) && b)) (takes_is chain kept is)

@@ -33,7 +33,7 @@ use Rattle.el_mempool.specs.Fees.{fee_change, stay_changes, fee_changes}
 use Rattle.el_mempool.proofs.FeeChanges.{Matched, matched_went, matched_stays}
 use Rattle.el_mempool.proofs.Sifting.{AllJoin, joins_of}
 use Rattle.el_mempool.proofs.Confirmed.{hash_self, hash_same, hash_turned}
-use Rattle.el_mempool.proofs.Named.{AreNamed, among_append, are_named_more}
+use Rattle.el_mempool.proofs.Named.{AreNamed, among_append, are_named_more, held_more}
 use Rattle.el_mempool.proofs.Dropping.{rest, among_rest, none_among, taken_rest}
 use Rattle.el_mempool.proofs.Picked.{KeysApart}
 use Rattle.el_mempool.proofs.Changes.{apart_from}
@@ -50,7 +50,7 @@ use Rattle.el_kept.proofs.Lookups.{kept_unspent, unspent_of, fee_is}
 
 -- ---- one of them
 
-same_kept : {a b : Hash32} {f g : ℤ} {m n v w : ℕ} {x y : List ℕ} {i j : List Source} {o p : List Held} → a ≡ b → f ≡ g → m ≡ n → v ≡ w → x ≡ y → i ≡ j → o ≡ p
+pub same_kept : {a b : Hash32} {f g : ℤ} {m n v w : ℕ} {x y : List ℕ} {i j : List Source} {o p : List Held} → a ≡ b → f ≡ g → m ≡ n → v ≡ w → x ≡ y → i ≡ j → o ≡ p
     → ◌≡◌ {A = KeptTx} (record { txid = a; flag = f; fee = m; vsize = v; bytes = x; inputs = i; outputs = o }) (record { txid = b; flag = g; fee = n; vsize = w; bytes = y; inputs = j; outputs = p })
 same_kept e1 e2 e3 e4 e5 e6 e7 = rw (e1, e2, e3, e4, e5, e6, e7) refl
 
@@ -63,7 +63,7 @@ next_is before chain all kept t k f found is flags are =
     (ap (λ (x : KeptTx). x.bytes) is) are outs
 
 -- both take by the transaction's own outpoints
-froms_same : (before chain : Chain) (all kept : List Tx) (is : List TxIn) → AreNamed before all is → AreNamed chain kept is
+pub froms_same : (before chain : Chain) (all kept : List Tx) (is : List TxIn) → AreNamed before all is → AreNamed chain kept is
     → same_froms (sources before all is) (sources chain kept is) ≡ true
 froms_same before chain all kept [] h g = refl
 froms_same before chain all kept (i ∷ is) h g =
@@ -336,11 +336,18 @@ one_left before chain all gone gone_now changed now fees fees_now touched touche
             let both = and_parts (not (is_confirmed before (txid t))) (each_takes before h.done t.inputs && not (nat_lt (total_held (held_by before h.done t.inputs)) (total_value t.outputs))) joins.0 in
             (and_parts (each_takes before h.done t.inputs) (not (nat_lt (total_held (held_by before h.done t.inputs)) (total_value t.outputs))) both.1).0
 
+        covered : nat_lt (total_held (held_by before h.done t.inputs)) (total_value t.outputs) ≡ false
+        covered =
+            let both = and_parts (not (is_confirmed before (txid t))) (each_takes before h.done t.inputs && not (nat_lt (total_held (held_by before h.done t.inputs)) (total_value t.outputs))) joins.0 in
+            not-true (nat_lt (total_held (held_by before h.done t.inputs)) (total_value t.outputs)) (and_parts (each_takes before h.done t.inputs) (not (nat_lt (total_held (held_by before h.done t.inputs)) (total_value t.outputs))) both.1).1
+
         next : IsNext before all h.kept gone t k
         next = record {
           is = first;
           named = subst (λ (l : List Tx). AreNamed before l t.inputs) (sym whole) (are_named_more before h.done (t ∷ ts) t.inputs names);
           free = subst (λ (l : List Tx). each_free l t.inputs ≡ true) (sym h.kept_are) (free_left before (has gone) h.done t.inputs takes);
+          enough = ap (λ (l : List Tx). nat_lt (total_held (held_by before l t.inputs)) (total_value t.outputs)) whole
+              ∙ ap (λ hs. nat_lt (total_held hs) (total_value t.outputs)) (held_more before h.done (t ∷ ts) t.inputs names) ∙ covered;
           left = left_inputs before all h.done h.kept (t ∷ ts) gone t.inputs whole h.kept_are (fresh_from before h.done (t ∷ ts) joins) names;
         }
 

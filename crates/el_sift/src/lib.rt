@@ -5,6 +5,8 @@
 mod confirming;
 mod exchanging;
 mod moving;
+mod reach;
 mod renewing;
 
 pub use moving::sift_table;
+pub use reach::Reach;

@@ -1,5 +1,5 @@
 // Kept transactions over another chain.
-ghost use Rattle.std.specs.Prelude.{◌≡◌, ◌-◌, ◌||◌, ◌++◌, ◌∷◌, [], true, false, List, map, OnOk, IfOk, if◌then◌else◌};
+ghost use Rattle.std.specs.Prelude.{◌≡◌, ◌-◌, ◌||◌, ◌++◌, ◌∷◌, [], true, false, List, map, OnOk, IfOk, IfSome, if◌then◌else◌};
 ghost use Rattle.std.specs.List.{list_any};
 ghost use Rattle.el_outside.specs.Counts.{CountsOnly};
 ghost use Rattle.el_base.specs.declared.hash.Hash32 as hash_shape;
@@ -17,10 +17,12 @@ ghost use Rattle.el_kept.specs.declared.listing.Listing as listing_shape;
 ghost use Rattle.el_kept.specs.Listings.{txid_of, is_in, AreListed};
 ghost use Rattle.el_kept.specs.Tables.{standing, slot, has, with_takes, without, is_of, retaken, IsTable, HasFewSlots};
 ghost use Rattle.el_kept.specs.Named.{total_sources, IsOver, AreUnspent};
+ghost use Rattle.el_sift.specs.Untouched.{KeepsUntouched};
 ghost use Rattle.el_sift.specs.within.Renewal.{settled, IsNext, IsKeptOn, Knows, KnowsAll, IsSifted};
 
-use crate::confirming::confirmed_in;
+use crate::confirming::confirmed_over;
 use crate::exchanging::{have_same_scripts, touch_changes};
+use crate::reach::{Reach, is_beyond};
 use crate::renewing::renewed;
 use el_base::{Listed, OutOfMemory};
 use el_chain::Touched;
@@ -143,11 +145,13 @@ fn leave(
     Ok(())
 }
 
-// The sift comes to the entry after those before it that aren't gone.
+// The sift comes to the entry after those before it that aren't gone. One that the move doesn't reach is left
+// as it was.
 fn sift_one<G: Ledger>(
     alloc: Global,
     table: &Table,
     confirmed: &Touched,
+    reach: Option<Reach<'_>>,
     ledger: &mut G,
     entry: &KeptTx,
     found: &mut Sifted,
@@ -155,13 +159,18 @@ fn sift_one<G: Ledger>(
     requires live { G.is_live ledger.old }
     ensures sifted { (before chain : Chain) (all kept : List shape.Tx) (t : shape.Tx)
         → IsNext before all kept found.old.gone t entry.now → IsOver table.now before all
-        → AreUnspent chain kept → Knows chain confirmed.now entry.now → G.stands ledger.old chain
+        → AreUnspent chain kept → Knows chain confirmed.now entry.now
+        → IfSome reach.entry (λ r. KeepsUntouched before chain r.same r.touched.now)
+        → G.stands ledger.old chain
         → OnOk result (IsSifted before chain all kept t found.old.gone found.new.gone
         found.old.changed found.new.changed found.old.fees found.new.fees
         found.old.touched found.new.touched) }
     ensures quiet { Asked ⟦<G as Ledger>⟧ ledger.old ledger.new }
     ensures cause { CountsOnly (G.faults ledger.old) (G.faults ledger.new) QueryFault.DiskFailed result }
 {
+    if is_beyond(reach, entry, &found.gone, confirmed) {
+        return Ok(());
+    }
     match renewed(alloc, table, &found.gone, confirmed, ledger, entry)? {
         Some(taken) => keep(
             alloc,
@@ -181,11 +190,14 @@ fn sift_all<G: Ledger>(
     alloc: Global,
     table: &Table,
     confirmed: &Touched,
+    reach: Option<Reach<'_>>,
     ledger: &mut G,
 ) -> Result<Sifted, QueryFault>
     requires live { G.is_live ledger.old }
     ensures sifted { (before chain : Chain) (all : List shape.Tx) → IsOver table.now before all
-        → KnowsAll chain confirmed.now (standing table.now.kept.entries) → G.stands ledger.old chain
+        → KnowsAll chain confirmed.now (standing table.now.kept.entries)
+        → IfSome reach.entry (λ r. KeepsUntouched before chain r.same r.touched.now)
+        → G.stands ledger.old chain
         → IfOk result (λ found. StandsFor (map (settled found.changed)
         (without found.gone (standing table.now.kept.entries))) chain (sift chain all)
         × AreChanged before all chain (sift chain all) found.touched
@@ -202,7 +214,7 @@ fn sift_all<G: Ledger>(
     };
     for (_, slot) in table.kept.iter() {
         if let Some(entry) = slot {
-            sift_one(alloc, table, confirmed, ledger, entry, &mut found)?;
+            sift_one(alloc, table, confirmed, reach, ledger, entry, &mut found)?;
         }
     }
     // The list says that each is there once.
@@ -278,6 +290,7 @@ fn sift_in_place<G: Ledger>(
     listings: &mut BTreeSet<Listing>,
     changes: &mut Vec<FeeChange>,
     ledger: &mut G,
+    reach: Option<Reach<'_>>,
 ) -> Result<Touched, QueryFault>
     requires live { G.is_live ledger.old }
     requires table { IsTable table.old (standing table.old.kept.entries) }
@@ -287,22 +300,24 @@ fn sift_in_place<G: Ledger>(
     ensures listed { OnOk result (AreListed listings.new (standing table.new.kept.entries)) }
     ensures sifted { (before chain : Chain) (kept : List shape.Tx)
         → StandsFor (standing table.old.kept.entries) before kept → G.stands ledger.old chain
+        → IfSome reach.entry (λ r. KeepsUntouched before chain r.same r.touched.now)
         → IfOk result (λ touched. StandsFor (standing table.new.kept.entries) chain (sift chain kept)
         × AreChanged before kept chain (sift chain kept) touched) }
     ensures fees { (before chain : Chain) (kept : List shape.Tx)
         → StandsFor (standing table.old.kept.entries) before kept → G.stands ledger.old chain
+        → IfSome reach.entry (λ r. KeepsUntouched before chain r.same r.touched.now)
         → OnOk result (AreFeeChanges (standing table.old.kept.entries) (standing table.new.kept.entries)
         changes.new.items) }
     ensures quiet { Asked ⟦<G as Ledger>⟧ ledger.old ledger.new }
     ensures cause { CountsOnly (G.faults ledger.old) (G.faults ledger.new) QueryFault.DiskFailed result }
 {
-    let confirmed = confirmed_in(alloc, table, ledger)?;
+    let confirmed = confirmed_over(alloc, table, ledger, reach)?;
     let Sifted {
         gone,
         changed,
         fees,
         touched,
-    } = sift_all(alloc, table, &confirmed, ledger)?;
+    } = sift_all(alloc, table, &confirmed, reach, ledger)?;
     take_out_all(table, listings, gone.list());
     settle_all(alloc, table, listings, changed)?;
     tidy(table);
@@ -311,7 +326,9 @@ fn sift_in_place<G: Ledger>(
 }
 
 /// Keeps what the sift keeps over the ledger's chain, and gives the script hashes that changed; `changes`
-/// then has what changed of the fees.
+/// then has what changed of the fees. Without a reach each kept transaction is asked for anew, whichever
+/// chain the set stood for; where the moves since then reach no further than one, what they don't reach is
+/// left as it was, unasked.
 ///
 /// # Errors
 ///
@@ -322,6 +339,7 @@ pub fn sift_table<G: Ledger>(
     listings: &mut BTreeSet<Listing>,
     changes: &mut Vec<FeeChange>,
     ledger: &mut G,
+    reach: Option<Reach<'_>>,
 ) -> Result<Touched, QueryFault>
     requires live { G.is_live ledger.old }
     requires table { IsTable table.old (standing table.old.kept.entries) }
@@ -331,16 +349,18 @@ pub fn sift_table<G: Ledger>(
     ensures slots { HasFewSlots table.new }
     ensures sifted { (before chain : Chain) (kept : List shape.Tx)
         → StandsFor (standing table.old.kept.entries) before kept → G.stands ledger.old chain
+        → IfSome reach.entry (λ r. KeepsUntouched before chain r.same r.touched.now)
         → IfOk result (λ touched. StandsFor (standing table.new.kept.entries) chain (sift chain kept)
         × AreChanged before kept chain (sift chain kept) touched) }
     ensures fees { (before chain : Chain) (kept : List shape.Tx)
         → StandsFor (standing table.old.kept.entries) before kept → G.stands ledger.old chain
+        → IfSome reach.entry (λ r. KeepsUntouched before chain r.same r.touched.now)
         → OnOk result (AreFeeChanges (standing table.old.kept.entries) (standing table.new.kept.entries)
         changes.new.items) }
     ensures quiet { Asked ⟦<G as Ledger>⟧ ledger.old ledger.new }
     ensures cause { CountsOnly (G.faults ledger.old) (G.faults ledger.new) QueryFault.DiskFailed result }
 {
-    match sift_in_place(alloc, table, listings, changes, ledger) {
+    match sift_in_place(alloc, table, listings, changes, ledger, reach) {
         Ok(touched) => Ok(touched),
         Err(fault) => {
             *table = empty_table(alloc);

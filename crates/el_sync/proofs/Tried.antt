@@ -24,7 +24,7 @@ use Rattle.el_mempool.specs.Standing.{AreChanged, PoolState, StandsFor}
 use Rattle.el_fees.specs.Tables.{IsTableOf}
 use Rattle.el_model.specs.Keeping.{Either}
 use Rattle.el_model.specs.LedgerCalls.{Asked, CrashLeaves, Moved}
-use Rattle.el_model.specs.Queries.{tip_of, height_of}
+use Rattle.el_model.specs.Queries.{blocks_in, tip_of, height_of}
 use Rattle.el_model.proofs.LedgerMoves.{LeavesOwn, asked_leaves}
 use Rattle.el_model.proofs.ReadBodies.{stood_longer, stood_up_to, moves_weaker, refused_weaker, flight_weaker}
 use Rattle.el_lines.specs.NodeAnswers.{move_refused}
@@ -52,6 +52,8 @@ use Rattle.el_model.specs.declared.fault.QueryFault.{QueryFault}
 use Rattle.el_model.specs.declared.fault.QueryFault.TheVariants as fault
 use Rattle.el_sync.specs.declared.making.Made.{Made}
 use Rattle.el_sync.specs.declared.moving.Step.{Step}
+use Rattle.el_sift.specs.Untouched.{KeepsUntouched}
+use Rattle.el_sync.proofs.Reach.{move_reaches, none_reaches}
 use Rattle.el_sync.proofs.Led.{stands_there, still_there}
 use Rattle.el_sync.proofs.Lists.{left_fewer, left_no_more, none_fewer}
 
@@ -344,18 +346,18 @@ module _ {G A : Type 0} (of : Ghosts G A) where
       }
 
   -- the set was sifted, or a later move is to do it
-  pub settled : (was now : Beneath G A) (mid : G) (side : Side) (start : Chain) (back : ℕ) (rest : List Node) (holdings : Holdings) (pool_new : PoolState) (fees_new : List ℕ) (caches caches_mid caches_new : Caches) (m : Made) (changed : List Hash32) (later ends : Bool) → LeavesOwn of.ledger → of.ledger.is_live mid
+  pub settled : (was now : Beneath G A) (mid : G) (side : Side) (start : Chain) (back : ℕ) (rest : List Node) (holdings : Holdings) (pool_new : PoolState) (fees_new : List ℕ) (caches caches_mid caches_new : Caches) (m : Made) (changed : List Hash32) (later ends : Bool) (stay : ℕ) → LeavesOwn of.ledger → of.ledger.is_live mid
       → IsSure side → IsAt of was holdings caches side start → (later ≡ false → side.ahead ≡ []) → Tries of was (record now { ledger = mid }) side back rest m → MoveKeeps of was (record now { ledger = mid }) rest m
-      → ends ≡ ((length m.left == 0) && (m.moved || later))
-      → ((first chain : Chain) → StandsFor holdings.pool.entries first side.kept → of.ledger.stands mid chain → ends ≡ true → StandsFor pool_new.entries chain (sift chain side.kept)
+      → ends ≡ ((length m.left == 0) && (m.moved || later)) → stay ≡ blocks_in (height_of side.chain) - back
+      → ((first chain : Chain) → StandsFor holdings.pool.entries first side.kept → of.ledger.stands mid chain → (later ≡ false → KeepsUntouched first chain stay m.touched) → ends ≡ true → StandsFor pool_new.entries chain (sift chain side.kept)
       × AreChanged first side.kept chain (sift chain side.kept) changed)
-      → ((first chain : Chain) → StandsFor holdings.pool.entries first side.kept → of.ledger.stands mid chain → IsTableOf holdings.fees holdings.pool.entries → IsTableOf fees_new pool_new.entries)
+      → ((first chain : Chain) → StandsFor holdings.pool.entries first side.kept → of.ledger.stands mid chain → (later ≡ false → KeepsUntouched first chain stay m.touched) → IsTableOf holdings.fees holdings.pool.entries → IsTableOf fees_new pool_new.entries)
       → (ends ≡ false → pool_new ≡ holdings.pool) → pool_new.limits ≡ holdings.pool.limits → Asked of.ledger mid now.ledger → of.ledger.faults now.ledger ≡ of.ledger.faults mid
       → CachesStand caches_mid start (shorter (if m.moved then back else 0) side.chain)
       → ((first chain : Chain) → CachesStand caches_mid first chain → of.ledger.stands mid chain → ends ≡ true → CachesStand caches_new chain chain)
       → (ends ≡ false → caches_new ≡ caches_mid)
       → Leads of (Moving of.files side back rest) side start (left_by was now (record { answer = m.answer; left = m.left; moved = m.touched; changed = changed }) side.found (record holdings { pool = pool_new; fees = fees_new }) caches_new)
-  settled was now mid side start back rest holdings pool_new fees_new caches caches_mid caches_new m changed later ends own live sure at still t k is sifts follows_fees same limits asked disk_same taken follows stays = by t.tried t.moved t.rose
+  settled was now mid side start back rest holdings pool_new fees_new caches caches_mid caches_new m changed later ends stay own live sure at still t k is stay_is sifts follows_fees same limits asked disk_same taken follows stays = by t.tried t.moved t.rose
     where
       rose_on : (losses : List Deed) → Lost of was (record now { ledger = mid }) losses
           → Lost of was now losses
@@ -364,6 +366,13 @@ module _ {G A : Type 0} (of : Ghosts G A) where
       -- where no move was made, the caches are of the chain: they have followed it, or the line began there
       unmoved : m.moved ≡ false → CachesStand caches_mid start side.chain
       unmoved no_moved = subst (λ (c : Chain). CachesStand caches_mid start c) (none_back side.chain) (rw no_moved at taken)
+
+      -- the first move of a line reaches from the chain that the set stands for
+      from_start : (chain : Chain) → KeepsUntouched side.chain chain stay m.touched → later ≡ false → KeepsUntouched start chain stay m.touched
+      from_start chain beyond is_first = subst (λ (c : Chain). KeepsUntouched c chain stay m.touched) (sym (at.set.still (still is_first))) beyond
+
+      unreached : later ≡ false → KeepsUntouched start side.chain stay m.touched
+      unreached = from_start side.chain (none_reaches side.chain side.chain m.touched stay refl)
 
       stand_on : (b : Bool) → later ≡ b → ends ≡ later → m.moved ≡ false → of.ledger.stands mid side.chain → CachesStand caches_new side.chain side.chain
       stand_on true is_later ended no_moved stood = follows start side.chain (unmoved no_moved) stood (ended ∙ is_later)
@@ -376,6 +385,7 @@ module _ {G A : Type 0} (of : Ghosts G A) where
           let left_is : m.left ≡ left_of rest = k.left ∙ rw yes_moved refl in
           let stood : of.ledger.stands mid (shorter back side.chain ++ blocks) = rw chain_is at moved.stood in
           let there : CachesStand caches_mid start (shorter back side.chain ++ blocks) = put_in caches_mid start (shorter back side.chain) blocks (rw yes_moved at taken) in
+          let reached = from_start (shorter back side.chain ++ blocks) (move_reaches (plan_of back rest) side.chain blocks m.touched stay stay_is touched) in
           let ended : left_of rest ≡ [] → ends ≡ true = λ none. ends_whole (left_of rest) m.left m.moved later ends is yes_moved left_is none in
           record {
             losses = losses;
@@ -391,11 +401,11 @@ module _ {G A : Type 0} (of : Ghosts G A) where
             ahead_is = left_is;
             magic_is = refl;
             next_start = start_after (left_of rest) (shorter back side.chain ++ blocks) start;
-            set = set_moved (left_of rest) (shorter back side.chain ++ blocks) start (of.files.bytes now.files) holdings pool_new fees_new caches caches_new side at.set limits (λ s. follows_fees start (shorter back side.chain ++ blocks) (at.set.stood sure) stood (at.set.fees sure))
-                (λ none. ((sifts start (shorter back side.chain ++ blocks) (at.set.stood sure) stood (ended none)).0, follows start (shorter back side.chain ++ blocks) there stood (ended none)))
+            set = set_moved (left_of rest) (shorter back side.chain ++ blocks) start (of.files.bytes now.files) holdings pool_new fees_new caches caches_new side at.set limits (λ s. follows_fees start (shorter back side.chain ++ blocks) (at.set.stood sure) stood reached (at.set.fees sure))
+                (λ none. ((sifts start (shorter back side.chain ++ blocks) (at.set.stood sure) stood reached (ended none)).0, follows start (shorter back side.chain ++ blocks) there stood (ended none)))
                 (λ n ns some. let goes_on = ends_not n ns m.left m.moved later ends is (left_is ∙ some) in (same goes_on, rw (stays goes_on) there));
             touches = λ s. touches_moved (left_of rest) (shorter back side.chain ++ blocks) start (of.files.bytes now.files) side m.touched changed
-                (move_keeps (plan_of back rest) side.chain blocks m.touched touched) (λ none. (sifts start (shorter back side.chain ++ blocks) (at.set.stood sure) stood (ended none)).1);
+                (move_keeps (plan_of back rest) side.chain blocks m.touched touched) (λ none. (sifts start (shorter back side.chain ++ blocks) (at.set.stood sure) stood reached (ended none)).1);
             went = λ s. then_asked was.ledger mid now.ledger side.chain (shorter back side.chain ++ blocks) own live (rw chain_is at moved) asked;
             told = λ t. all_grow_none (of.files.bytes now.files);
             rose = rose_on losses rose;
@@ -413,11 +423,11 @@ module _ {G A : Type 0} (of : Ghosts G A) where
             ahead_is = left_is;
             magic_is = refl;
             next_start = side.chain;
-            set = set_refused later start (of.files.bytes now.files) holdings pool_new fees_new caches caches_new side sure at.set still limits (λ s. follows_fees start side.chain (at.set.stood sure) moved_on.stood (at.set.fees sure))
-                (λ yes_later. (sifts start side.chain (at.set.stood sure) moved_on.stood (ended ∙ yes_later)).0) (λ no_later. same (ended ∙ no_later))
+            set = set_refused later start (of.files.bytes now.files) holdings pool_new fees_new caches caches_new side sure at.set still limits (λ s. follows_fees start side.chain (at.set.stood sure) moved_on.stood unreached (at.set.fees sure))
+                (λ yes_later. (sifts start side.chain (at.set.stood sure) moved_on.stood unreached (ended ∙ yes_later)).0) (λ no_later. same (ended ∙ no_later))
                 (stand_on later refl ended no_moved moved_on.stood);
             touches = λ s. touches_refused later start (of.files.bytes now.files) holdings caches side m.touched changed sure at.set still
-                (λ yes_later. (sifts start side.chain (at.set.stood sure) moved_on.stood (ended ∙ yes_later)).1);
+                (λ yes_later. (sifts start side.chain (at.set.stood sure) moved_on.stood unreached (ended ∙ yes_later)).1);
             went = λ s. then_asked was.ledger mid now.ledger side.chain side.chain own live moved_on asked;
             told = λ t. all_grow_none (of.files.bytes now.files);
             rose = rose_on losses rose;
@@ -435,11 +445,11 @@ module _ {G A : Type 0} (of : Ghosts G A) where
             ahead_is = left_is;
             magic_is = refl;
             next_start = side.chain;
-            set = set_refused later start (of.files.bytes now.files) holdings pool_new fees_new caches caches_new side sure at.set still limits (λ s. follows_fees start side.chain (at.set.stood sure) moved_on.stood (at.set.fees sure))
-                (λ yes_later. (sifts start side.chain (at.set.stood sure) moved_on.stood (ended ∙ yes_later)).0) (λ no_later. same (ended ∙ no_later))
+            set = set_refused later start (of.files.bytes now.files) holdings pool_new fees_new caches caches_new side sure at.set still limits (λ s. follows_fees start side.chain (at.set.stood sure) moved_on.stood unreached (at.set.fees sure))
+                (λ yes_later. (sifts start side.chain (at.set.stood sure) moved_on.stood unreached (ended ∙ yes_later)).0) (λ no_later. same (ended ∙ no_later))
                 (stand_on later refl ended no_moved moved_on.stood);
             touches = λ s. touches_refused later start (of.files.bytes now.files) holdings caches side m.touched changed sure at.set still
-                (λ yes_later. (sifts start side.chain (at.set.stood sure) moved_on.stood (ended ∙ yes_later)).1);
+                (λ yes_later. (sifts start side.chain (at.set.stood sure) moved_on.stood unreached (ended ∙ yes_later)).1);
             went = λ s. then_asked was.ledger mid now.ledger side.chain side.chain own live moved_on asked;
             told = λ t. all_grow_none (of.files.bytes now.files);
             rose = rose_on losses rose;

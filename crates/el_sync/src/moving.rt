@@ -1,6 +1,7 @@
 // The moves of a tip line, and the sift of the unconfirmed set and what the caches follow that end it.
-ghost use Rattle.std.specs.Prelude.{◌≡◌, ◌≢◌, ◌≤◌, ◌<◌, ◌==◌, ◌&&◌, ◌||◌, if◌then◌else◌, [], true, false, IfOk, IfErr, OnOk, OnErr, List, length};
+ghost use Rattle.std.specs.Prelude.{◌≡◌, ◌≢◌, ◌≤◌, ◌<◌, ◌-◌, ◌==◌, ◌&&◌, ◌||◌, not, if◌then◌else◌, [], true, false, IfOk, IfErr, IfSome, OnOk, OnErr, List, length};
 ghost use Rattle.std.specs.List.{AllByRecursion};
+ghost use Rattle.std.specs.Option.{is_some};
 ghost use Rattle.el_base.specs.declared.hash.Hash32 as hash_shape;
 ghost use Rattle.el_outside.specs.Counts.{CountsOnly};
 ghost use Rattle.el_tx.specs.declared.types.Tx as tx_shape;
@@ -13,7 +14,9 @@ ghost use Rattle.el_mempool.specs.Sift.{sift};
 ghost use Rattle.el_mempool.specs.Standing.{AreChanged, StandsFor};
 ghost use Rattle.el_fees.specs.Tables.{IsTableOf};
 ghost use Rattle.el_model.specs.LedgerCalls.{Asked};
+ghost use Rattle.el_model.specs.Queries.{blocks_in};
 ghost use Rattle.el_model.specs.declared.fault.QueryFault.TheVariants as turn_fault;
+ghost use Rattle.el_sift.specs.Untouched.{KeepsUntouched};
 ghost use Rattle.el_side.specs.Beneath.{beneath, ghosts};
 ghost use Rattle.el_side.specs.Caching.{CachesStand};
 ghost use Rattle.el_side.specs.Plans.{plan_of};
@@ -31,6 +34,7 @@ use el_model::Ledger;
 use el_outside::{Archive, Pace};
 use el_pool::Pool;
 use el_side::{Caches, Holdings};
+use el_sift::Reach;
 use std::alloc::Global;
 use std::thread::Threads;
 
@@ -62,23 +66,52 @@ fn taken(moved: bool, back: u32) -> u32
     if moved { back } else { 0 }
 }
 
-// Where a line ends, sifts the set over the ledger's chain, and brings the table of fees to the set and the
-// caches to the chain. Gives the script hashes that changed.
+// How many blocks there are up to that height.
+fn blocks_to(top: Option<u32>) -> u64
+    ensures { result ≡ blocks_in top }
+{
+    match top {
+        None => 0,
+        Some(top) => u64::from(top) + 1,
+    }
+}
+
+// How far a line's moves reach where this is the first of them and the last: so many of the blocks up to that
+// height were taken back, and these script hashes touched. Of a later move the set stands for the chain
+// before earlier ones too.
+fn reach_of<'a>(top: Option<u32>, back: u32, touched: &'a Touched, later: bool) -> Option<Reach<'a>>
+    ensures first { is_some result ≡ not later }
+    ensures reach { IfSome result (λ r. (r.same ≡ blocks_in top - back) × (r.touched.now ≡ touched.now)) }
+{
+    if later {
+        return None;
+    }
+    Some(Reach {
+        same: blocks_to(top).saturating_sub(u64::from(back)),
+        touched,
+    })
+}
+
+// Where a line ends, sifts the set over the ledger's chain, as far as its moves reach, and brings the table
+// of fees to the set and the caches to the chain. Gives the script hashes that changed.
 fn settle<G: Ledger>(
     alloc: Global,
     ledger: &mut G,
     pool: &mut Pool,
     fees: &mut FeeTable,
     caches: &mut Caches,
+    reach: Option<Reach<'_>>,
     ends: bool,
 ) -> Result<Touched, StepFault>
     requires live { G.is_live ledger.old }
     ensures sifted { (before chain : Chain) (kept : List tx_shape.Tx)
         → StandsFor pool.old.entries before kept → G.stands ledger.old chain
+        → IfSome reach.entry (λ r. KeepsUntouched before chain r.same r.touched.now)
         → IfOk result (λ changed. ends ≡ true → StandsFor pool.new.entries chain (sift chain kept)
         × AreChanged before kept chain (sift chain kept) changed) }
     ensures fees { (before chain : Chain) (kept : List tx_shape.Tx)
         → StandsFor pool.old.entries before kept → G.stands ledger.old chain
+        → IfSome reach.entry (λ r. KeepsUntouched before chain r.same r.touched.now)
         → IsTableOf fees.old pool.old.entries → OnOk result (IsTableOf fees.new pool.new.entries) }
     ensures followed { (start chain : Chain) → CachesStand caches.old start chain → G.stands ledger.old chain
         → OnOk result (ends ≡ true → CachesStand caches.new chain chain) }
@@ -93,7 +126,7 @@ fn settle<G: Ledger>(
     if !ends {
         return Ok(Touched::new(alloc));
     }
-    let changed = pool.after_move(ledger)?;
+    let changed = pool.after_move(ledger, reach)?;
     fees.follow(pool.last_changes());
     caches.follow(alloc, ledger)?;
     Ok(changed)
@@ -151,12 +184,14 @@ pub fn move_once<W: Threads + Sync, G: Ledger, A: Archive>(
     } = make_move(rt, alloc, ledger, back, rest, archive, pace)?;
     caches.take_back(top, taken(moved, back));
     let ends = ends_line(&left, moved, later);
+    let reach = reach_of(top, back, &touched, later);
     let changed = settle(
         alloc,
         ledger,
         &mut holdings.pool,
         &mut holdings.fees,
         caches,
+        reach,
         ends,
     )?;
     Ok(Step {

@@ -1,12 +1,15 @@
 -- What a kept transaction takes over another chain, read off its entry, and what a sift over it finds.
-use Rattle.std.specs.Prelude.{◌≡◌, ◌⊎◌, ℤ, pos, negsuc, Bool, true, false, not, if◌then◌else◌, ◌&&◌, ◌||◌, List, [], ◌∷◌, ◌++◌, Option, None, option_map, option_to_list}
+use Rattle.std.specs.Prelude.{◌≡◌, ◌⊎◌, ℤ, pos, negsuc, Bool, true, false, not, nat_lt, if◌then◌else◌, ◌&&◌, ◌||◌, List, [], ◌∷◌, ◌++◌, Option, None, option_map, option_to_list}
 use Rattle.std.specs.List.{AllByRecursion, list_any}
 use Rattle.std.specs.Option.{is_some}
 use Rattle.el_base.specs.declared.hash.Hash32.{Hash32}
 use Rattle.el_tx.specs.declared.types.Outpoint.{Outpoint}
 use Rattle.el_tx.specs.declared.types.TxIn.{TxIn}
 use Rattle.el_tx.specs.declared.types.Tx.{Tx}
+use Rattle.el_tx.specs.Encoding.{total_value}
 use Rattle.el_tx.specs.Hashing.{txid}
+use Rattle.el_block.specs.Blocks.{txids}
+use Rattle.el_chain.specs.declared.placed.Placed.{Placed}
 use Rattle.el_chain.specs.Chains.{Chain}
 use Rattle.el_chain.specs.Headers.{same_hash}
 use Rattle.el_mempool.specs.declared.held.Held.{Held}
@@ -14,7 +17,7 @@ use Rattle.el_mempool.specs.declared.held.Source.{Source}
 use Rattle.el_mempool.specs.declared.held.KeptTx.{KeptTx}
 use Rattle.el_mempool.specs.declared.fees.FeeChange.{FeeChange}
 use Rattle.el_mempool.specs.Fees.{fee_change, stay_changes}
-use Rattle.el_mempool.specs.Sift.{coin_named, output_among, named, any_takes, is_taken, is_confirmed, may_join}
+use Rattle.el_mempool.specs.Sift.{coin_named, output_among, named, any_takes, is_taken, held_by, total_held, is_confirmed, may_join}
 use Rattle.el_mempool.specs.Standing.{kept_tx}
 use Rattle.el_mempool.specs.Moving.{step_differs}
 use Rattle.el_kept.specs.declared.table.Table.{Table}
@@ -55,9 +58,22 @@ abbrev pub AreSeen : (Outpoint → Option Held) → Chain → List Tx → List S
 AreSeen left chain kept ss = AllByRecursion (λ (s : Source). (left s.from ≡ output_among s.from kept)
     × (is_some (output_among s.from kept) ≡ true → coin_named chain s.from ≡ None)) ss
 
+-- what the input takes may be another thing: its maker is gone, or its script hash is touched
+abbrev pub may_differ : List Hash32 → List Hash32 → Source → Bool
+may_differ gone touched s = has gone s.from.txid || has touched s.held.script
+
+-- no input of the entry takes what may be another thing, and its txid is none of the confirmed ones
+pub record IsUntouched (gone confirmed touched : List Hash32) (k : KeptTx) : Type 0 where
+  pub other : has confirmed k.txid ≡ false
+  pub same : list_any (may_differ gone touched) k.inputs ≡ false
+
 -- these txids tell whether the chain has the entry's transaction
 abbrev pub Knows : Chain → List Hash32 → KeptTx → Type 0
 Knows chain confirmed k = has confirmed k.txid ≡ is_confirmed chain k.txid
+
+-- a transaction of the block has that txid
+abbrev pub has_in_block : Hash32 → Placed → Bool
+has_in_block x b = has (txids b.block.txs) x
 
 -- these txids tell of each of these entries whether the chain has its transaction
 abbrev pub KnowsAll : Chain → List Hash32 → List KeptTx → Type 0
@@ -76,6 +92,7 @@ pub record IsNext (before : Chain) (all kept : List Tx) (gone : List Hash32) (t 
   pub is : k ≡ kept_tx before all t
   pub named : AllByRecursion (λ (i : TxIn). is_some (named before all i.from) ≡ true) t.inputs
   pub free : each_free kept t.inputs ≡ true
+  pub enough : nat_lt (total_held (held_by before all t.inputs)) (total_value t.outputs) ≡ false
   pub left : AllByRecursion (λ (i : TxIn). IsLeft all kept gone i.from) t.inputs
 
 -- what is told of an entry that takes another thing

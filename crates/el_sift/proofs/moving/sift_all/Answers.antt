@@ -20,7 +20,7 @@ loop-slot-init g c =
       quiet = asked_none d c.args.ledger.now;
       still = refl;
       told = λ chain told. subst (λ (l : List Slot). KnowsAll chain c.args.confirmed.now (standing l)) (sym (c.into_iter-slot-iterator.ensures.into_iter_gives ∙ c.iter-slot-items.ensures.rest)) told;
-      left = λ before chain all over told stood.
+      left = λ before chain all over told keeps stood.
           left_start before chain all c.new.result c.new-2.result c.new-3.result c.new-4.result c.args.table.now.kept.entries c.into_iter-slot-iterator.result c.new.ensures c.new-2.ensures c.new-3.ensures c.new-4.ensures
           (c.into_iter-slot-iterator.ensures.into_iter_gives ∙ c.iter-slot-items.ensures.rest) (subst (λ (l : List KeptTx). StandsFor l before all) (sym over.table.are) over.stands);
     }
@@ -35,11 +35,11 @@ loop-slot-preserved-in-Continue-1 g c =
           c.args.ledger.now c.loop-slot.ledger c.sift_one.new.ledger c.loop-slot.invariant.quiet c.in_ok-sift_one.ensures.quiet;
       still = c.in_ok-sift_one.ensures.cause.uncounted ∙ c.loop-slot.invariant.still;
       told = λ chain told. (first_told chain c.args.confirmed.now c.loop-slot.slot-iterator c.next.new.self _ c.in-Some.slot.now c.in-Some-slot.entry c.in-Some.ensures.steps c.in-Some-slot.is (c.loop-slot.invariant.told chain told)).1;
-      left = λ before chain all over told stood.
+      left = λ before chain all over told keeps stood.
           left_some before chain all c.loop-slot.found.gone c.sift_one.new.found.gone c.loop-slot.found.changed c.sift_one.new.found.changed c.loop-slot.found.fees c.sift_one.new.found.fees c.loop-slot.found.touched c.sift_one.new.found.touched
-          c.loop-slot.slot-iterator c.next.new.self _ c.in-Some.slot.now c.in-Some-slot.entry c.in-Some.ensures.steps c.in-Some-slot.is (c.loop-slot.invariant.left before chain all over told stood)
+          c.loop-slot.slot-iterator c.next.new.self _ c.in-Some.slot.now c.in-Some-slot.entry c.in-Some.ensures.steps c.in-Some-slot.is (c.loop-slot.invariant.left before chain all over told keeps stood)
           (λ kept t e unspent. c.in_ok-sift_one.ensures.sifted before chain all kept t e over unspent
-          (first_told chain c.args.confirmed.now c.loop-slot.slot-iterator c.next.new.self _ c.in-Some.slot.now c.in-Some-slot.entry c.in-Some.ensures.steps c.in-Some-slot.is (c.loop-slot.invariant.told chain told)).0
+          (first_told chain c.args.confirmed.now c.loop-slot.slot-iterator c.next.new.self _ c.in-Some.slot.now c.in-Some-slot.entry c.in-Some.ensures.steps c.in-Some-slot.is (c.loop-slot.invariant.told chain told)).0 keeps
           (c.loop-slot.invariant.quiet.stays.still_stands chain stood));
     }
 
@@ -50,17 +50,17 @@ loop-slot-preserved g c = record {
   quiet = c.loop-slot.invariant.quiet;
   still = c.loop-slot.invariant.still;
   told = λ chain told. rest_told chain c.args.confirmed.now c.loop-slot.slot-iterator c.next.new.self _ c.in-Some.slot.now c.in-Some.ensures.steps c.in_default.is (c.loop-slot.invariant.told chain told);
-  left = λ before chain all over told stood.
+  left = λ before chain all over told keeps stood.
       left_none before chain all c.loop-slot.found.gone c.loop-slot.found.changed c.loop-slot.found.fees c.loop-slot.found.touched c.loop-slot.slot-iterator c.next.new.self _ c.in-Some.slot.now c.in-Some.ensures.steps
-      c.in_default.is (c.loop-slot.invariant.left before chain all over told stood);
+      c.in_default.is (c.loop-slot.invariant.left before chain all over told keeps stood);
 }
 
 pub returns-clause-sifted : goal.returns-clause-sifted
-returns-clause-sifted g c = λ before chain all over told stood.
+returns-clause-sifted g c = λ before chain all over told keeps stood.
     none_left before chain all (standing c.args.table.now.kept.entries) c.loop-slot.found.gone c.loop-slot.found.changed c.loop-slot.found.fees c.loop-slot.found.touched
     (subst (λ (l : List KeptTx). StandsFor l before all) (sym over.table.are) over.stands) c.list-list.ensures.once
     (subst (λ (l : List Slot). AreLeft before chain all c.loop-slot.found.gone c.loop-slot.found.changed c.loop-slot.found.fees c.loop-slot.found.touched (standing l)) c.in-None.ensures.steps.0
-    (c.loop-slot.invariant.left before chain all over told stood))
+    (c.loop-slot.invariant.left before chain all over told keeps stood))
 
 pub returns-in_err-sift_one-clause-cause : goal.returns-in_err-sift_one-clause-cause
 returns-in_err-sift_one-clause-cause g c =

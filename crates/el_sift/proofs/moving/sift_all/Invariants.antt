@@ -4,6 +4,8 @@ use Rattle.el_tx.specs.declared.types.Tx.{Tx}
 use Rattle.el_model.specs.LedgerCalls.{Asked}
 use Rattle.el_kept.specs.Tables.{standing}
 use Rattle.el_kept.specs.Named.{IsOver}
+use Rattle.std.specs.Prelude.{IfSome}
+use Rattle.el_sift.specs.Untouched.{KeepsUntouched}
 use Rattle.el_sift.specs.within.Renewal.{KnowsAll}
 use Rattle.el_sift.proofs.Sifts.{AreLeft}
 use Rattle.el_sift.proofs.moving.sift_all.Given as goal
@@ -19,6 +21,7 @@ invariant-loop-slot g l =
           l.initial.ledger l.ledger;
       still : d.faults l.ledger ≡ d.faults l.initial.ledger;
       told : (chain : Chain) → KnowsAll chain l.confirmed (standing l.table.kept.entries) → KnowsAll chain l.confirmed (standing l.slot-iterator);
-      left : (before chain : Chain) (all : List Tx) → IsOver l.table before all → KnowsAll chain l.confirmed (standing l.table.kept.entries) → d.stands l.initial.ledger chain
+      left : (before chain : Chain) (all : List Tx) → IsOver l.table before all → KnowsAll chain l.confirmed (standing l.table.kept.entries)
+          → IfSome l.reach (λ r. KeepsUntouched before chain r.same r.touched.now) → d.stands l.initial.ledger chain
           → AreLeft before chain all l.found.gone l.found.changed l.found.fees l.found.touched (standing l.slot-iterator);
     }

@@ -1,7 +1,9 @@
-use Rattle.std.proofs.Common.{ap, true, [], ◌∙◌, Err}
+use Rattle.std.proofs.Common.{◌-◌, ap, true, [], ◌∙◌, Err}
+use Rattle.el_model.specs.Queries.{blocks_in}
 use Rattle.std.proofs.lemmas.Result.{err_from_is_err_and}
 use Rattle.el_side.proofs.Settled.{by_sure}
 use Rattle.el_side.specs.Side.{quiet_side}
+use Rattle.el_sync.proofs.Reach.{is_told}
 use Rattle.el_sync.proofs.Tried.{later_then, made_fewer, made_no_more, settled, step_unsettled, stops_first, unsettled, unsure_settled}
 use Rattle.el_outside.proofs.Traces.{all_grow_none}
 use Rattle.el_sync.proofs.moving.move_once.Goals as goal
@@ -12,9 +14,12 @@ returns-clause-moving g c = λ side start at still.
     let s = c.in_ok-changed.ensures in
     by_sure side _
     (λ sure. settled _ _ _ c.make_move.new.ledger side start c.args.back c.args.rest
-    c.args.holdings.now c.settle.new.pool c.settle.new.fees c.args.caches.now c.take_back.new.self c.settle.new.caches c.in_ok-answer.field-0 c.in_ok-changed.changed c.args.later c.ends_line-ends.result (λ a d f h i j k. g.met.G.Ledger.leaves_own a d f h i j k) e.keeps.live sure at still
-    (e.tried side (at.stood sure) at.told) e.keeps c.ends_line-ends.ensures (λ first chain stood stands ended. s.sifted first chain side.kept stood stands ended)
-    (λ first chain stood stands of_fees. s.fees first chain side.kept stood stands of_fees) s.same s.limits s.asked s.disk_rose.uncounted
+    c.args.holdings.now c.settle.new.pool c.settle.new.fees c.args.caches.now c.take_back.new.self c.settle.new.caches c.in_ok-answer.field-0 c.in_ok-changed.changed c.args.later c.ends_line-ends.result (blocks_in c.height-top.result - c.args.back) (λ a d f h i j k. g.met.G.Ledger.leaves_own a d f h i j k) e.keeps.live sure at still
+    (e.tried side (at.stood sure) at.told) e.keeps c.ends_line-ends.ensures (ap (λ h. blocks_in h - c.args.back) (c.height-top.ensures ∙ g.met.G.Ledger.height_is c.args.ledger.now side.chain (at.stood sure)))
+    (λ first chain stood stands beyond ended. s.sifted first chain side.kept stood stands (is_told c.reach_of-reach.result (λ r. r.same) (λ r. r.touched.now) c.args.later first chain (blocks_in c.height-top.result - c.args.back) c.in_ok-answer.field-0.touched
+    c.reach_of-reach.ensures.first c.reach_of-reach.ensures.reach beyond) ended)
+    (λ first chain stood stands beyond of_fees. s.fees first chain side.kept stood stands (is_told c.reach_of-reach.result (λ r. r.same) (λ r. r.touched.now) c.args.later first chain (blocks_in c.height-top.result - c.args.back) c.in_ok-answer.field-0.touched
+    c.reach_of-reach.ensures.first c.reach_of-reach.ensures.reach beyond) of_fees) s.same s.limits s.asked s.disk_rose.uncounted
     (rw c.taken.ensures at (c.take_back.ensures start side.chain (c.height-top.ensures ∙ g.met.G.Ledger.height_is c.args.ledger.now side.chain (at.stood sure)) (at.set.computed sure)))
     (λ first chain stand stands ended. s.followed first chain stand stands ended) s.kept)
     (λ un. unsure_settled _ _ _ c.make_move.new.ledger side start c.args.back c.args.rest
