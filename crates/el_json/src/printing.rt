@@ -1,9 +1,10 @@
 // Compact texts, written into one buffer that has room for them from the start.
-ghost use Rattle.std.specs.Prelude.{◌≡◌, ◌≤◌, true, false, pos, int_lt, Some, IfOk, OnOk};
+ghost use Rattle.std.specs.Prelude.{◌≡◌, ◌≤◌, ◌+◌, min, [], true, false, pos, int_lt, Some, IfOk, OnOk};
 ghost use Rattle.serde_json.specs.Data.{depth};
 ghost use Rattle.serde_json.specs.Read.{max_depth};
 ghost use Rattle.serde_json.specs.Written as written;
 ghost use Rattle.el_json.specs.Lines.{value_of};
+ghost use Rattle.el_json.specs.within.Room as spec;
 ghost use Rattle.serde_json.specs.View.{view, number_view, items_view, members_view};
 ghost use Rattle.serde_json.specs.Data.{number, unsigned, negative};
 ghost use Rattle.serde_json.specs.Find.{is_float};
@@ -98,7 +99,9 @@ fn write_members(map: &Map<String, Json>, out: &mut Writer) -> Result<(), AllocE
 
 // How many bytes the compact text of a value has at most, where its texts need no escapes, with a comma.
 #[cycle(room_of)]
-fn room_of(value: &Json) -> usize {
+fn room_of(value: &Json) -> usize
+    ensures { result ≡ min (spec.room (view value.now)) usize.MAX }
+{
     match value {
         Json::Null => 5,
         Json::Bool(_) => 6,
@@ -110,7 +113,9 @@ fn room_of(value: &Json) -> usize {
 }
 
 #[cycle(room_of)]
-fn items_room(list: &Vec<Json>) -> usize {
+fn items_room(list: &Vec<Json>) -> usize
+    ensures { result ≡ min (3 + spec.items_room (items_view list.now.items)) usize.MAX }
+{
     let mut room = 3usize;
     for item in list {
         room = room.saturating_add(room_of(item));
@@ -119,7 +124,9 @@ fn items_room(list: &Vec<Json>) -> usize {
 }
 
 #[cycle(room_of)]
-fn members_room(map: &Map<String, Json>) -> usize {
+fn members_room(map: &Map<String, Json>) -> usize
+    ensures { result ≡ min (3 + spec.members_room (members_view map.now.entries)) usize.MAX }
+{
     let mut room = 3usize;
     for (name, member) in map.iter() {
         room = room
@@ -130,6 +137,32 @@ fn members_room(map: &Map<String, Json>) -> usize {
     room
 }
 
+// A writer that has written nothing, with room for the value's compact text and one byte more, unless a text in
+// it needs escapes.
+fn writer_for(alloc: Global, value: &Json) -> Result<Writer, AllocError>
+    ensures before { IfOk result (λ out. out.before ≡ []) }
+    ensures tokens { IfOk result (λ out. out.tokens ≡ []) }
+    ensures spare { IfOk result (λ out. out.spare ≡ min (spec.room (view value.now) + 2) usize.MAX) }
+{
+    let room = room_of(value).saturating_add(2);
+    Ok(Writer::new(Vec::with_capacity(alloc, room)?))
+}
+
+// The compact text of a value, by a writer that has written nothing and has room for it.
+fn text_by(value: &Json, out: Writer) -> Result<Vec<u8>, AllocError>
+    requires float { has_float (view value.now) ≡ false }
+    requires before { out.before ≡ [] }
+    requires tokens { out.tokens ≡ [] }
+    requires spare { min (spec.room (view value.now) + 2) usize.MAX ≤ out.spare }
+    ensures text { IfOk result (λ text. text.items ≡ written.compact_text (view value.now)) }
+    ensures reads_back { IfOk result (λ text. depth (view value.now) ≤ max_depth
+        → value_of text.items ≡ Some (view value.now)) }
+{
+    let mut out = out;
+    write_value(value, &mut out)?;
+    Ok(out.into_inner())
+}
+
 // The compact text of a value without a float, in one buffer that has room for it, and for one byte more,
 // unless a text in it needs escapes.
 pub(crate) fn compact_text(alloc: Global, value: &Json) -> Result<Vec<u8>, AllocError>
@@ -138,8 +171,5 @@ pub(crate) fn compact_text(alloc: Global, value: &Json) -> Result<Vec<u8>, Alloc
     ensures reads_back { IfOk result (λ text. depth (view value.now) ≤ max_depth
         → value_of text.items ≡ Some (view value.now)) }
 {
-    let room = room_of(value).saturating_add(2);
-    let mut out = Writer::new(Vec::with_capacity(alloc, room)?);
-    write_value(value, &mut out)?;
-    Ok(out.into_inner())
+    text_by(value, writer_for(alloc, value)?)
 }

@@ -1,5 +1,6 @@
 -- Bytes of which a transaction is read, or none is.
-use Rattle.std.proofs.Common.{◌≡◌, ◌≢◌, ◌⊎◌, inl, inr, ℕ, List, [], ◌++◌, length, Result, Ok, Err, sym, ap, append-nil}
+use Rattle.std.proofs.Common.{◌≡◌, ◌≢◌, ◌⊎◌, ◌==◌, inl, inr, ℕ, Bool, true, false, if◌then◌else◌, List, [], ◌++◌, length, Result, Ok, Err, IfErr, refl, sym, ap, subst, append-nil}
+use Rattle.std.proofs.lemmas.Bool.{eqb-false}
 use Rattle.el_tx.specs.Encoding.{Encodes}
 use Rattle.el_tx.specs.declared.fault.TxFault.{TxFault}
 use Rattle.el_tx.specs.declared.fault.TxFault.TheVariants as fault
@@ -35,3 +36,16 @@ pub refused_whole : (r : Result (Tx × ℕ) TxFault) (bytes : List ℕ) (e : TxF
     → (f ≡ refusal.Memory) ⊎ ((f ≡ refusal.Bad) × (e ≢ fault.Memory)) → (f ≡ refusal.Memory) ⊎ ((f ≡ refusal.Bad) × ((t : Tx) → Encodes bytes t → ⊥))
 refused_whole r bytes e f only is (inl h) = inl h
 refused_whole r bytes e f only is (inr h) = inr (h.0, none_whole r bytes e only is h.1)
+
+-- what was read is refused where it isn't of all the bytes
+pub refused_part : (out : Result Tx PoolFault) (r : Read) (bytes : List ℕ) (tx : Tx) (size : ℕ) → ReadsOnly r bytes → r ≡ Ok (tx, size)
+    → out ≡ (if size == length bytes then Ok tx else Err refusal.Bad)
+    → IfErr out (λ e. (e ≡ refusal.Memory) ⊎ ((e ≡ refusal.Bad) × ((t : Tx) → Encodes bytes t → ⊥)))
+refused_part out r bytes tx size only is said = by (size == length bytes) refl said
+  where
+    Said : Result Tx PoolFault → Type 0
+    Said o = IfErr o (λ e. (e ≡ refusal.Memory) ⊎ ((e ≡ refusal.Bad) × ((t : Tx) → Encodes bytes t → ⊥)))
+
+    by : (b : Bool) → (size == length bytes) ≡ b → out ≡ (if b then Ok tx else Err refusal.Bad) → Said out
+    by true all said = subst Said (sym said) tt
+    by false all said = subst Said (sym said) (inr (refl, not_whole r bytes tx size only is (eqb-false size (length bytes) all)))

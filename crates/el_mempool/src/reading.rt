@@ -1,5 +1,5 @@
 // What a transaction is, by its bytes alone.
-ghost use Rattle.std.specs.Prelude.{◌≡◌, ◌≢◌, ◌⊎◌, IfOk, IfErr};
+ghost use Rattle.std.specs.Prelude.{◌≡◌, ◌≢◌, ◌⊎◌, ◌↔◌, ◌==◌, length, if◌then◌else◌, Ok, Err, IfOk, IfErr};
 ghost use Rattle.el_tx.specs.Encoding.{Encodes};
 ghost use Rattle.el_tx.specs.declared.types.Tx as shape;
 ghost use Rattle.el_mempool.specs.Refusals.{has_coinbase_form};
@@ -18,11 +18,23 @@ const NO_OUTPUT: Outpoint = Outpoint {
 // What it means for the set that no transaction was read.
 fn refusal_of(fault: TxFault) -> PoolFault
     ensures is { (result ≡ PoolFault.Memory) ⊎ ((result ≡ PoolFault.Bad) × (fault ≢ TxFault.Memory)) }
+    ensures memory { result ≡ PoolFault.Memory ↔ fault ≡ TxFault.Memory }
     ensures other { result ≢ PoolFault.DiskFailed }
 {
     match fault {
         TxFault::Memory => PoolFault::Memory,
         _ => PoolFault::Bad,
+    }
+}
+
+// The transaction that was read of so many of the bytes, where these are all. Takes no memory.
+fn whole(tx: Tx, size: usize, bytes: &[u8]) -> Result<Tx, PoolFault>
+    ensures { result ≡ (if size == length bytes.now then Ok tx else Err PoolFault.Bad) }
+{
+    if size == bytes.len() {
+        Ok(tx)
+    } else {
+        Err(PoolFault::Bad)
     }
 }
 
@@ -38,12 +50,7 @@ pub fn whole_tx(alloc: Global, bytes: &[u8]) -> Result<Tx, PoolFault>
     ensures other { IfErr result (λ e. e ≢ PoolFault.DiskFailed) }
 {
     match decode_tx(alloc, bytes) {
-        Ok((tx, size)) => {
-            if size != bytes.len() {
-                return Err(PoolFault::Bad);
-            }
-            Ok(tx)
-        }
+        Ok((tx, size)) => whole(tx, size, bytes),
         Err(fault) => Err(refusal_of(fault)),
     }
 }

@@ -1,6 +1,5 @@
 -- What a command's call says of the program's words.
-use Rattle.std.proofs.Common.{◌≡◌, ◌⊎◌, inl, inr, ◌-◌, ◌^◌, List, Result, Ok, Err, IfOk, ap, ◌∙◌}
-use Rattle.std.specs.Result.{result_unwrap_or}
+use Rattle.std.proofs.Common.{◌≡◌, ◌⊎◌, inl, inr, ◌-◌, ◌^◌, List, Result, Ok, Err, IfOk, MatchResult, ap, sym, subst, ◌∙◌}
 use Rattle.el_outside.specs.declared.archive.Archive as archive
 use Rattle.el_outside.specs.declared.disk.Disk as disk
 use Rattle.el_outside.specs.declared.link.Link as link
@@ -97,21 +96,19 @@ command_served of_index of_none of_fresh of_files of_no_files of_folder of_no_re
       fresh = c.4;
     })
 
+-- what holds of these words holds of some
+pub of_some_words : {E : Type 0} (P : List Word → Status → Type 0) (words : List Word) (r : Result Status E)
+    → IfOk r (λ ended. P words ended) → IfOk r (λ ended. (ws : List Word) × P ws ended)
+of_some_words P words (Ok x) is = (words, is)
+of_some_words P words (Err x) is = tt
+
 -- words were served, or memory ran out
-pub all_served : {N F B R S E : Type 0} (of_index : disk.Ghosts (FilesOf Word)) (of_none : disk.Ghosts N)
-    (of_fresh : disk.Ghosts F) (of_files : archive.Ghosts (BlocksOf Word)) (of_no_files : archive.Ghosts B)
-    (of_folder : relay.Ghosts (RelayOf Word)) (of_no_relay : relay.Ghosts R)
-    (of_ports : link.Ghosts LinkOverPorts)
-    (of_streams : link.Ghosts S) (words : List Word) (r : Result Status E) (s : Status)
-    → IfOk r (λ ended. IsServing of_index of_none of_files of_folder of_ports of_streams words ended
-    ⊎ IsChecking of_fresh of_no_files of_no_relay of_streams words ended)
-    → s ≡ result_unwrap_or r status.OutOfMemory
-    → (s ≡ status.OutOfMemory) ⊎ ((ws : List Word)
-    × (IsServing of_index of_none of_files of_folder of_ports of_streams ws s
-    ⊎ IsChecking of_fresh of_no_files of_no_relay of_streams ws s))
-all_served of_index of_none of_fresh of_files of_no_files of_folder of_no_relay of_ports of_streams words (Ok x) s is e =
-    inr (words, rw e is)
-all_served of_index of_none of_fresh of_files of_no_files of_folder of_no_relay of_ports of_streams words (Err x) s is e = inl e
+pub all_served : {E : Type 0} (P : List Word → Status → Type 0) (r : Result Status E) (s : Status)
+    → IfOk r (λ ended. (ws : List Word) × P ws ended)
+    → MatchResult r (λ ended. s ≡ ended) (λ _. s ≡ status.OutOfMemory)
+    → (s ≡ status.OutOfMemory) ⊎ ((ws : List Word) × P ws s)
+all_served P (Ok x) s is e = inr (is.0, subst (P is.0) (sym e) is.1)
+all_served P (Err x) s is e = inl e
 
 -- a call over these files is one over those that the command asks for
 pub asked_files : {E K : Type 0} (P : Call (FilesOf Word) (BlocksOf Word) (RelayOf Word) K → Type 0)

@@ -1,5 +1,5 @@
 // The headers of the index's chain.
-ghost use Rattle.std.specs.Prelude.{◌≡◌, ◌≤◌, ◌^◌, IfOk, MatchOption, Some, slice_get};
+ghost use Rattle.std.specs.Prelude.{◌≡◌, ◌≤◌, ◌+◌, ◌*◌, ◌^◌, IfOk, MatchOption, Some, slice_get};
 ghost use Rattle.std.specs.List.{AllByRecursion};
 ghost use Rattle.el_outside.specs.Counts.{HasCause, CountsOnly};
 ghost use Rattle.el_tx.specs.Headers.{IsHeader, header_encoding};
@@ -37,6 +37,7 @@ fn node_of<G: Ledger>(ledger: &mut G, h: u32) -> Result<Node, DiskFailed>
     ensures of_chain { (chain : Chain) → G.stands ledger.old chain
         → IfOk result (λ n. slice_get (nodes_of_chain chain) h ≡ Some n) }
     ensures node { IfOk result IsNode }
+    ensures rows { G.reads ledger.new ≤ G.reads ledger.old + 2 }
     ensures quiet { Asked ⟦<G as Ledger>⟧ ledger.old ledger.new }
     ensures cause { HasCause (G.faults ledger.old) (G.faults ledger.new) result }
 {
@@ -62,6 +63,8 @@ pub fn nodes_of<G: Ledger>(alloc: Global, ledger: &mut G) -> Result<Vec<Node>, Q
     ensures of_chain { (chain : Chain) → G.stands ledger.old chain
         → IfOk result (λ found. found.items ≡ nodes_of_chain chain) }
     ensures nodes { IfOk result (λ found. AllByRecursion IsNode found.items) }
+    // Two rows are read for a block.
+    ensures rows { G.reads ledger.new ≤ G.reads ledger.old + 2 * blocks_in (G.height ledger.old) }
     ensures quiet { Asked ⟦<G as Ledger>⟧ ledger.old ledger.new }
     ensures cause { CountsOnly (G.faults ledger.old) (G.faults ledger.new) QueryFault.DiskFailed result }
 {

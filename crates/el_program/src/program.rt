@@ -1,5 +1,5 @@
 // From the words of the command line to the end of the program.
-ghost use Rattle.std.specs.Prelude.{◌≡◌, ◌⊎◌, ◌-◌, ◌^◌, List, drop, IfOk};
+ghost use Rattle.std.specs.Prelude.{◌≡◌, ◌⊎◌, ◌-◌, ◌^◌, List, drop, IfOk, MatchResult};
 ghost use Rattle.std.specs.Process.{exit_status};
 ghost use Rattle.el_words.specs.Options.{Word};
 ghost use Rattle.el_words.specs.Words.{texts};
@@ -318,6 +318,27 @@ fn serve_words<W: Threads + Sync>(
     }
 }
 
+// Serves the words that the program was started with, with no end of turns.
+fn serve_started<W: Threads + Sync>(rt: &HostRuntime, threads: &W) -> Result<Status, OutOfMemory>
+    ensures { IfOk result (λ status. (words : List Word)
+        × (IsServing ⟦<FileDisk<IndexFolder<HostRuntime>> as Disk>⟧ ⟦<NoDisk as Disk>⟧
+        ⟦<BlockFiles<BlockFolder<HostRuntime>> as el_outside::Archive>⟧
+        ⟦<DirRelay<RelayFolder<HostRuntime>> as el_outside::Relay>⟧ ⟦<TcpLink<HostRuntime> as Link>⟧
+        ⟦<StandardLink<HostRuntime> as Link>⟧ words status
+        ⊎ IsChecking ⟦<MemDisk as Disk>⟧ ⟦<NoFiles as el_outside::Archive>⟧ ⟦<NoRelay as el_outside::Relay>⟧
+        ⟦<StandardLink<HostRuntime> as Link>⟧ words status)) }
+{
+    let words = words_of(rt)?;
+    serve_words(rt, threads, words.as_slice())
+}
+
+// How the program ends: as its command did, or for want of memory where none was served to its end.
+fn end_of(served: Result<Status, OutOfMemory>) -> Status
+    ensures { MatchResult served (λ ended. result ≡ ended) (λ _. result ≡ Status.OutOfMemory) }
+{
+    served.unwrap_or(Status::OutOfMemory)
+}
+
 /// Serves the words that the program was started with, with no end of turns, and answers how that ended. What
 /// the words are is the system's to say; a word that is no text counts as no command. `threads` is the
 /// runtime once more, as what starts threads: only `main` can lend it as that.
@@ -330,10 +351,7 @@ pub fn serve_all<W: Threads + Sync>(rt: &HostRuntime, threads: &W) -> Status
         ⊎ IsChecking ⟦<MemDisk as Disk>⟧ ⟦<NoFiles as el_outside::Archive>⟧ ⟦<NoRelay as el_outside::Relay>⟧
         ⟦<StandardLink<HostRuntime> as Link>⟧ words result)) }
 {
-    match words_of(rt) {
-        Ok(words) => serve_words(rt, threads, words.as_slice()).unwrap_or(Status::OutOfMemory),
-        Err(_) => Status::OutOfMemory,
-    }
+    end_of(serve_started(rt, threads))
 }
 
 /// Tells on standard error how the program ended, and gives its exit status.

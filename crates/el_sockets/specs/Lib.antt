@@ -1,2 +1,3 @@
 pub mod Arrivals
 pub mod Calls
+pub mod within

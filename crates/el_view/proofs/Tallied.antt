@@ -1,10 +1,10 @@
 -- The sums over the entries that clients see of a script hash are those over all kept transactions.
-use Rattle.std.proofs.Common.{◌≡◌, inl, inr, ℕ, ◌+◌, ℤ, pos, ◌-ℤ◌, Bool, true, false, cond, List, [], ◌∷◌, ◌++◌, Option, None, Some, refl, ap, ◌∙◌, arith}
+use Rattle.std.proofs.Common.{◌≡◌, ◌≤◌, ◌^◌, ◌⊎◌, inl, inr, ℕ, ◌+◌, ℤ, pos, ◌-ℤ◌, Bool, true, false, cond, List, [], ◌∷◌, ◌++◌, Option, None, Some, refl, ap, ◌∙◌, arith}
 use Rattle.std.proofs.lemmas.Bool.{cases_Bool, or_parts}
 use Rattle.std.proofs.lemmas.Int.{ints}
 use Rattle.std.proofs.lemmas.List.Sums.{sum_by-cons}
 use Rattle.std.specs.List.{AllByRecursion, filter, list_any}
-use Rattle.std.specs.Prelude.{map, sum_by, option_map, option_to_list, Result, Ok, Err, IfOk}
+use Rattle.std.specs.Prelude.{map, sum_by, option_map, option_to_list, Result, Ok, Err, IfOk, OnErr}
 use Rattle.std.specs.Ordering.{is_gt}
 use Rattle.std.specs.Str.{bytes_eq}
 use Rattle.std.specs.declared.cmp.Ordering.{Ordering}
@@ -117,3 +117,16 @@ change_is entries chain kept s stands given taken gave took =
 pub ok_same : {E : Type 0} (r : Result ℤ E) (a b : ℤ) → a ≡ b → IfOk r (λ x. x ≡ a) → IfOk r (λ x. x ≡ b)
 ok_same (Ok x) a b same is = is ∙ same
 ok_same (Err e) a b same is = is
+
+-- where a sum so far passes 128 bits, that of all does
+pub one_is_wide : (given taken more_given more_taken all_given all_taken : ℕ)
+    → ((2 ^ 128 ≤ given + more_given) ⊎ (2 ^ 128 ≤ taken + more_taken))
+    → given + more_given ≤ all_given → taken + more_taken ≤ all_taken
+    → (2 ^ 128 ≤ all_given) ⊎ (2 ^ 128 ≤ all_taken)
+one_is_wide given taken more_given more_taken all_given all_taken (inl h) g t = inl (omega (arith, h, g))
+one_is_wide given taken more_given more_taken all_given all_taken (inr h) g t = inr (omega (arith, h, t))
+
+-- what holds anyhow holds where there is an error
+pub on_any : {T E P : Type 0} (r : Result T E) → P → OnErr r P
+on_any (Ok t) p = tt
+on_any (Err e) p = p

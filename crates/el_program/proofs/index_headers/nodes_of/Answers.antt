@@ -21,6 +21,7 @@ loop-h-preserved g c =
           c.in_ok-node.node (c.loop-h.invariant.so_far chain stood)
           (c.in_ok-node.ensures.of_chain chain
           (c.loop-h.invariant.quiet.stays.still_stands chain stood)));
+      rows = omega (arith, c.loop-h.invariant.rows, c.in_ok-node.ensures.rows);
     }
 
 pub returns-clause-of_chain : goal.returns-clause-of_chain

@@ -1,4 +1,4 @@
-use Rattle.std.proofs.Common.{◌≡◌, take}
+use Rattle.std.proofs.Common.{◌≡◌, ◌≤◌, ◌+◌, ◌*◌, take}
 use Rattle.std.specs.List.{AllByRecursion}
 use Rattle.el_chain.specs.Chains.{Chain}
 use Rattle.el_chain.specs.Records.{IsNode}
@@ -16,4 +16,5 @@ invariant-loop-h g l =
       nodes : AllByRecursion IsNode l.nodes.items;
       so_far : (chain : Chain) → d.stands l.initial.ledger chain
           → l.nodes.items ≡ take l.h (nodes_of_chain chain);
+      rows : d.reads l.ledger ≤ d.reads l.initial.ledger + 2 * l.h;
     }

@@ -1,10 +1,5 @@
-use Rattle.std.proofs.Common.{inl, refl}
 use Rattle.el_program.proofs.Programs.{all_served}
 use Rattle.el_program.proofs.program.serve_all.Goals as goal
 
-pub returns-in-Ok : goal.returns-in-Ok
-returns-in-Ok g c =
-    all_served _ _ _ _ _ _ _ _ _ _ c.serve_words.result _ c.serve_words.ensures.serving c.unwrap_or.ensures
-
-pub returns-in-Err : goal.returns-in-Err
-returns-in-Err g c = inl refl
+pub returns : goal.returns
+returns g c = all_served _ c.serve_started.result c.end_of.result c.serve_started.ensures c.end_of.ensures

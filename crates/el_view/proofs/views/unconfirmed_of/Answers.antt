@@ -9,4 +9,4 @@ returns c = λ chain kept stands.
     let entries = c.as_slice.ensures.value ∙ c.in_ok-entries.ensures chain kept stands in
     ok_same _ _ _ (change_is c.args.pool.now.entries chain kept s stands c.in_ok-sums.sums.given c.in_ok-sums.sums.taken
     (c.in_ok-sums.ensures.given chain kept stands ∙ ap (given_by chain kept s) entries)
-    (c.in_ok-sums.ensures.taken chain kept stands ∙ ap (taken_by chain kept s) entries)) c.change_of.ensures
+    (c.in_ok-sums.ensures.taken chain kept stands ∙ ap (taken_by chain kept s) entries)) c.change_of.ensures.change
