@@ -1493,10 +1493,10 @@ def many_lines(program):
 
 # Each method over the two blocks of Bitcoin, with what it answers: a result, or a code and its message.
 EVERY_METHOD = [
-    (("server.version", "electrum/4.5", ["1.4", "1.4.2"]), ["el_serve 1.0", "1.4"]),
+    (("server.version", "electrum/4.5", ["1.4", "1.4.2"]), ["el_serve 1.0", "1.4.2"]),
     (("server.version",), (1, "version already agreed")),
     (("server.features",), {
-        "genesis_hash": GENESIS_HASH, "hash_function": "sha256", "hosts": {}, "protocol_max": "1.4",
+        "genesis_hash": GENESIS_HASH, "hash_function": "sha256", "hosts": {}, "protocol_max": "1.4.2",
         "protocol_min": "1.4", "pruning": None, "server_version": "el_serve 1.0",
     }),
     (("server.banner",), "Electrum Protocol 1.4 server over block files"),
@@ -1539,7 +1539,10 @@ EVERY_METHOD = [
     (("blockchain.transaction.id_from_pos", 1, 0, True), {"merkle": [], "tx_hash": BLOCK1_TXID}),
     (("blockchain.transaction.id_from_pos", 0, 1), (1, "no such position")),
     (("mempool.get_fee_histogram",), []),
-    (("blockchain.scripthash.unsubscribe", GENESIS_SCRIPT), (-32601, "unknown method")),
+    (("blockchain.scripthash.unsubscribe", GENESIS_SCRIPT), True),
+    (("blockchain.scripthash.unsubscribe", GENESIS_SCRIPT), False),
+    (("blockchain.scripthash.unsubscribe",), (-32602, "invalid params")),
+    (("blockchain.scripthash.forget", GENESIS_SCRIPT), (-32601, "unknown method")),
     (("server.ping", 1), (-32602, "invalid params")),
     (("blockchain.block.header",), (-32602, "invalid params")),
     (("blockchain.block.header", -1), (-32602, "invalid params")),
@@ -1655,9 +1658,9 @@ def wallet_told(scripts, chain):
     headers = [data[:80].hex().encode() for data in chain]
     told = statuses(chain)
     return b"".join([
-        b'{"id":0,"jsonrpc":"2.0","result":["el_serve 1.0","1.4"]}\n',
+        b'{"id":0,"jsonrpc":"2.0","result":["el_serve 1.0","1.4.2"]}\n',
         b'{"id":1,"jsonrpc":"2.0","result":{"genesis_hash":"%s","hash_function":"sha256","hosts":{},'
-        b'"protocol_max":"1.4","protocol_min":"1.4","pruning":null,"server_version":"el_serve 1.0"}}\n'
+        b'"protocol_max":"1.4.2","protocol_min":"1.4","pruning":null,"server_version":"el_serve 1.0"}}\n'
         % block_id(chain[0]).encode(),
         b'{"id":2,"jsonrpc":"2.0","result":{"height":%d,"hex":"%s"}}\n' % (len(chain) - 1, headers[-1]),
         b'{"id":3,"jsonrpc":"2.0","result":{"count":%d,"hex":"%s","max":2016}}\n' % (len(chain), b"".join(headers)),
@@ -1688,12 +1691,17 @@ def script_news(k, told):
         % (script_hash(k).encode(), json.dumps(told.get(script(k))).encode()))
 
 
-def news_of(scripts, was, now, kept_before=(), kept_now=()):
-    """What a client that subscribes to headers and these scripts is told where one chain became another one."""
+def script_lines(scripts, was, now, kept_before=(), kept_now=()):
+    """What a client that subscribes to these scripts is told of them where one chain became another one."""
     before, after = statuses(was, kept_before), statuses(now, kept_now)
     changed = [k for k in scripts if after.get(script(k)) != before.get(script(k))]
+    return b"".join(script_news(k, after) for k in changed)
+
+
+def news_of(scripts, was, now, kept_before=(), kept_now=()):
+    """What a client that subscribes to headers and these scripts is told where one chain became another one."""
     tip = b"" if was[-1] == now[-1] else tip_news(now)
-    return tip + b"".join(script_news(k, after) for k in changed)
+    return tip + script_lines(scripts, was, now, kept_before, kept_now)
 
 
 def start_of_a_wallet(program):
@@ -2105,6 +2113,65 @@ def clients_are_told_of_unconfirmed_transactions(program):
     return it.ends(told, node), (wanted, ENDED)
 
 
+# What clients ask for by the versions that they take, and which one is agreed; none is where they are closed.
+VERSIONS = [
+    ([], "1.4"), (["c"], "1.4"), (["electrum/4.3.4", "1.4"], "1.4"), (["c", "1.4.1"], "1.4.1"),
+    (["c", "1.4.2"], "1.4.2"), (["c", ["1.4", "1.4.2"]], "1.4.2"), (["c", ["1.4", "1.4.1"]], "1.4.1"),
+    (["c", ["1.4.1", "2"]], "1.4.2"), (["c", ["0.9", "1.4.0"]], "1.4"), (["c", "1.3"], None),
+    (["c", ["1.4.3", "1.5"]], None), (["c", ["1.4.2", "1.4"]], None),
+]
+
+
+def versions_that_clients_take(program):
+    # the greatest that is served and that the client takes; where there is none, the client is closed
+    os.mkdir("index")
+    put("a/blk00000.dat", GOOD)
+    it = Served(program)
+    told = []
+    for params, shared in VERSIONS:
+        client = it.client()
+        client.says(request("server.version", params) + request("server.ping"))
+        if shared:
+            told.append(client.hears(2))
+            client.leaves()
+        else:
+            told.append(client.rest())
+    ping = b'{"id":1,"jsonrpc":"2.0","result":null}\n'
+    refused = b'{"error":{"code":1,"message":"version not shared"},"id":1,"jsonrpc":"2.0"}\n'
+    wanted = [
+        b'{"id":1,"jsonrpc":"2.0","result":["el_serve 1.0","%s"]}\n' % shared.encode() + ping if shared else refused
+        for _, shared in VERSIONS]
+    return it.ends(told), (wanted, ENDED)
+
+
+def subscription_that_is_dropped(program):
+    # of one that was dropped nothing is told, another client is told on; what comes again stands last, and its
+    # answer is the status of then
+    os.mkdir("index")
+    put("a/blk00000.dat", b"".join(record(it, REGTEST) for it in (ZERO, A1, A2)))
+    it = Served(program, network="regtest")
+    node, client, other = it.node(), it.client(), it.client()
+    subscribe, drop = "blockchain.scripthash.subscribe", "blockchain.scripthash.unsubscribe"
+    scripts = [101, 1, 2]
+    told = node.asks(tip_line(ZERO))
+    for one in (client, other):
+        one.asks(requests((subscribe, script_hash(k)) for k in scripts))
+    told += client.asks(requests([("server.version", "c", "1.4.2"), (drop, script_hash(101)), (drop, script_hash(101))]))
+    wanted = at_line(ZERO, 0) + (
+        b'{"id":1,"jsonrpc":"2.0","result":["el_serve 1.0","1.4.2"]}\n'
+        b'{"id":2,"jsonrpc":"2.0","result":true}\n{"id":3,"jsonrpc":"2.0","result":false}\n')
+    steps = [(A1, [ZERO], [ZERO, A1], [1, 2], scripts), (A2, [ZERO, A1], [ZERO, A1, A2], [1, 2, 101], scripts)]
+    for top, was, now, of_client, of_other in steps:
+        mine, others = script_lines(of_client, was, now), script_lines(of_other, was, now)
+        told += node.asks(tip_line(top)) + client.hears(mine.count(b"\n")) + other.hears(others.count(b"\n"))
+        wanted += at_line(top, len(now) - 1) + mine + others
+        if 101 not in of_client:
+            told += client.asks(request(subscribe, [script_hash(101)]))
+            status = json.dumps(statuses(now).get(script(101))).encode()
+            wanted += b'{"id":1,"jsonrpc":"2.0","result":%s}\n' % status
+    return it.ends(told, node), (wanted, ENDED)
+
+
 def three_clients_of_whom_one_leaves(program):
     # the second one breaks off; the others are told on, and one that comes later is told of what comes later
     os.mkdir("index")
@@ -2166,6 +2233,10 @@ def as_many_subscriptions_as_may_be(program):
     held = answered(client.asks(one_more))
     told += node.asks(tip_line(BLOCK1)) + client.hears()
     held += answered(client.asks(one_more))
+    # one is dropped, and a new one is answered in its place
+    dropped = "blockchain.scripthash.unsubscribe"
+    held += answered(client.asks(requests([(dropped, scripts[7]), (dropped, scripts[7]), (method, GENESIS_SCRIPT)])))
+    held += answered(client.asks(requests([(method, scripts[7])])))
     status = status_of([BLOCK1_TXID + ":1:"])
     none = [b",".join(b'{"id":%d,"jsonrpc":"2.0","result":null}' % call["id"] for call in batch) for batch in batches]
     too_many = (1, "too many subscriptions")
@@ -2173,7 +2244,9 @@ def as_many_subscriptions_as_may_be(program):
         at_line(GENESIS, 0) + at_line(BLOCK1, 1)
         + b'{"jsonrpc":"2.0","method":"%s","params":["%s","%s"]}\n'
         % (method.encode(), BLOCK1_SCRIPT.encode(), status.encode()),
-        [b"[%s]\n" % batch for batch in none], [too_many, None, too_many, status],
+        [b"[%s]\n" % batch for batch in none], [
+            too_many, None, too_many, status, True, False, status_of([GENESIS_TXID + ":0:"]), too_many,
+        ],
     )
     return it.ends((told, answers, held), node), (wanted, ENDED)
 
@@ -2715,6 +2788,8 @@ CASES = [
     block_of_many_transactions,
     unconfirmed_transaction_of_much,
     three_clients_of_whom_one_leaves,
+    versions_that_clients_take,
+    subscription_that_is_dropped,
     two_wallets_are_told_of_blocks,
     clients_are_told_of_unconfirmed_transactions,
     client_that_breaks_off,

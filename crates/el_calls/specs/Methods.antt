@@ -1,4 +1,4 @@
--- What each method takes (Electrum Protocol 1.4, "Protocol Methods"): the names of its parameters in their
+-- What each method takes (Electrum Protocol 1.4.2, "Protocol Methods"): the names of its parameters in their
 -- order, and the call by what is given for them.
 use Rattle.std.specs.Prelude.{◌≡◌, ℕ, false, if◌then◌else◌, List, [], ◌∷◌, Option, Some, None, option_and_then, ok_or, is_some, Bool, Result, Ok, Err, codes}
 use Rattle.hex.specs.Hex.{decode_of}
@@ -16,7 +16,7 @@ use Rattle.el_calls.specs.declared.refusal.Refusal.{Refusal}
 use Rattle.el_calls.specs.declared.refusal.Refusal.TheVariants.{InvalidParams}
 use Rattle.el_calls.specs.declared.refusal.Refusal.TheVariants as refusal
 use Rattle.el_calls.specs.Names.{name_of}
-use Rattle.el_calls.specs.Versions.{versions_in, served}
+use Rattle.el_calls.specs.Versions.{versions_in, default_version}
 
 -- what comes first, and then what comes of it, unless it was refused
 infixl 10 ◌>>=◌
@@ -83,7 +83,7 @@ row_of method.ServerVersion = record {
   names = codes "client_name" ∷ codes "protocol_version" ∷ [];
   call = λ p. do
     client_name ← otherwise tt (passing is_text) (given p 0 (codes "client_name"))
-    versions ← otherwise (served, served) versions_in (given p 1 (codes "protocol_version"))
+    versions ← otherwise (default_version, default_version) versions_in (given p 1 (codes "protocol_version"))
     Ok (call.ServerVersion versions.0 versions.1);
 }
 row_of method.ServerBanner = plain call.ServerBanner
@@ -125,6 +125,7 @@ row_of method.GetHistory = of_script_hash call.GetHistory
 row_of method.GetMempool = of_script_hash call.GetMempool
 row_of method.ListUnspent = of_script_hash call.ListUnspent
 row_of method.ScriptHashSubscribe = of_script_hash call.ScriptHashSubscribe
+row_of method.ScriptHashUnsubscribe = of_script_hash call.ScriptHashUnsubscribe
 row_of method.Broadcast = record {
   names = codes "raw_tx" ∷ [];
   call = λ p. do

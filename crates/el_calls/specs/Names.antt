@@ -1,4 +1,4 @@
--- The names of the methods (Electrum Protocol 1.4, "Protocol Methods").
+-- The names of the methods (Electrum Protocol 1.4.2, "Protocol Methods").
 use Rattle.std.specs.Prelude.{ℕ, List, codes}
 use Rattle.el_calls.specs.declared.method.Method.{Method}
 use Rattle.el_calls.specs.declared.method.Method.TheVariants as method
@@ -22,6 +22,7 @@ name_of method.GetHistory = codes "blockchain.scripthash.get_history"
 name_of method.GetMempool = codes "blockchain.scripthash.get_mempool"
 name_of method.ListUnspent = codes "blockchain.scripthash.listunspent"
 name_of method.ScriptHashSubscribe = codes "blockchain.scripthash.subscribe"
+name_of method.ScriptHashUnsubscribe = codes "blockchain.scripthash.unsubscribe"
 name_of method.Broadcast = codes "blockchain.transaction.broadcast"
 name_of method.TransactionGet = codes "blockchain.transaction.get"
 name_of method.GetMerkle = codes "blockchain.transaction.get_merkle"

@@ -1,11 +1,12 @@
--- Versions of the protocol as clients name them (Electrum Protocol 1.4, server.version): one to three parts
+-- Versions of the protocol as clients name them (Electrum Protocol 1.4.2, server.version): one to three parts
 -- with dots between, each of one to four digits. Parts that are missing are 0.
-use Rattle.std.specs.Prelude.{ℕ, ◌+◌, ◌*◌, ◌-◌, ◌%◌, length, ◌==◌, nat_lt, nat_le, ◌&&◌, ◌||◌, Bool, false, if◌then◌else◌, List, [], ◌∷◌, Option, Some, None, option_and_then}
-use Rattle.std.specs.List.{list_all}
+use Rattle.std.specs.Prelude.{◌≡◌, ℕ, ◌+◌, ◌*◌, ◌-◌, length, ◌==◌, nat_lt, nat_le, ◌&&◌, ◌||◌, Bool, true, if◌then◌else◌, List, [], ◌∷◌, Option, Some, None, option_and_then, find, codes, get_or}
 use Rattle.std.specs.Char.{is_ascii_digit}
 use Rattle.serde_json.specs.Data.{Data}
 use Rattle.serde_json.specs.Find.{as_str}
 use Rattle.el_json.specs.Parameters.{pair_in}
+use Rattle.el_sessions.specs.declared.session.Version.{Version}
+use Rattle.el_sessions.specs.declared.session.Version.TheVariants as version
 use Rattle.el_calls.specs.declared.call.VersionParts.{VersionParts}
 
 -- what comes of the value that is there, and None where none is; lines after `do` are read by it
@@ -86,10 +87,47 @@ is_up_to a b =
     nat_lt a.major b.major
     || (a.major == b.major && (nat_lt a.minor b.minor || (a.minor == b.minor && nat_le a.patch b.patch)))
 
--- the version that is served: 1.4
-abbrev pub served : VersionParts
-served = record { major = 1; minor = 4; patch = 0 }
+-- the parts of a version that is served
+abbrev pub parts_of : Version → VersionParts
+parts_of version.V14 = record { major = 1; minor = 4; patch = 0 }
+parts_of version.V141 = record { major = 1; minor = 4; patch = 1 }
+parts_of version.V142 = record { major = 1; minor = 4; patch = 2 }
 
--- the version that is served is among those that the client takes
-abbrev pub is_shared : VersionParts → VersionParts → Bool
-is_shared least most = is_up_to least served && is_up_to served most
+-- as it is written
+abbrev pub text_of : Version → List ℕ
+text_of version.V14 = codes "1.4"
+text_of version.V141 = codes "1.4.1"
+text_of version.V142 = codes "1.4.2"
+
+-- the versions that are served, the greatest first
+abbrev pub served : List Version
+served = version.V142 ∷ version.V141 ∷ version.V14 ∷ []
+
+-- the greatest and the least of them
+abbrev pub protocol_max : Version
+protocol_max = get_or served 0 version.V14
+
+abbrev pub protocol_min : Version
+protocol_min = get_or served (length served - 1) version.V14
+
+-- the version lies from the first to the second
+abbrev pub lies_within : VersionParts → VersionParts → Version → Bool
+lies_within least most v = is_up_to least (parts_of v) && is_up_to (parts_of v) most
+
+-- the first of these that lies from the first to the second
+abbrev pub first_within : List Version → VersionParts → VersionParts → Option Version
+first_within versions least most = find (lies_within least most) versions
+
+-- the greatest version that is served and that the client takes
+abbrev pub greatest_shared : VersionParts → VersionParts → Option Version
+greatest_shared least most = first_within served least most
+
+-- the version lies from the first to the second, and none of them that does is above it
+abbrev pub IsGreatest : VersionParts → VersionParts → Version → Type 0
+IsGreatest least most v =
+    (lies_within least most v ≡ true)
+    × ((other : Version) → lies_within least most other ≡ true → is_up_to (parts_of other) (parts_of v) ≡ true)
+
+-- what a client takes that names no version
+abbrev pub default_version : VersionParts
+default_version = parts_of version.V14

@@ -12,13 +12,6 @@ pub struct VersionParts {
     pub patch: u16,
 }
 
-/// The version that is served.
-pub(crate) const SERVED: VersionParts = VersionParts {
-    major: 1,
-    minor: 4,
-    patch: 0,
-};
-
 /// A method with what is given for its parameters, or their defaults.
 #[derive(Debug, PartialEq, Eq, Drop)]
 pub enum Call {
@@ -49,6 +42,7 @@ pub enum Call {
     GetMempool(Hash32),
     ListUnspent(Hash32),
     ScriptHashSubscribe(Hash32),
+    ScriptHashUnsubscribe(Hash32),
     /// The bytes of a transaction.
     Broadcast(Bytes),
     TransactionGet {

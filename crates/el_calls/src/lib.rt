@@ -1,4 +1,4 @@
-//! Calls of Electrum Protocol 1.4: which one a method's name and its parameters ask for, or why none.
+//! Calls of Electrum Protocol 1.4.2: which one a method's name and its parameters ask for, or why none.
 #![tactic(auto)]
 
 mod call;
@@ -11,4 +11,4 @@ pub use call::{Call, VersionParts};
 pub use method::Method;
 pub use readers::call_of;
 pub use refusal::Refusal;
-pub use versions::is_shared;
+pub use versions::{PROTOCOL_MAX, PROTOCOL_MIN, greatest_shared, text_of};

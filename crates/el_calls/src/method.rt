@@ -3,7 +3,7 @@ ghost use Rattle.std.specs.Prelude.{◌≡◌, IfSome, IfNone};
 ghost use Rattle.el_calls.specs.Names.{name_of};
 ghost use Rattle.el_calls.specs.declared.method.Method as shape;
 
-/// A method (Electrum Protocol 1.4, "Protocol Methods").
+/// A method (Electrum Protocol 1.4.2, "Protocol Methods").
 #[derive(Clone, Copy, Debug, PartialEq, Eq)]
 pub enum Method {
     ServerVersion,
@@ -23,6 +23,7 @@ pub enum Method {
     GetMempool,
     ListUnspent,
     ScriptHashSubscribe,
+    ScriptHashUnsubscribe,
     Broadcast,
     TransactionGet,
     GetMerkle,
@@ -54,6 +55,7 @@ impl Method {
             "blockchain.scripthash.get_mempool" => Some(Method::GetMempool),
             "blockchain.scripthash.listunspent" => Some(Method::ListUnspent),
             "blockchain.scripthash.subscribe" => Some(Method::ScriptHashSubscribe),
+            "blockchain.scripthash.unsubscribe" => Some(Method::ScriptHashUnsubscribe),
             "blockchain.transaction.broadcast" => Some(Method::Broadcast),
             "blockchain.transaction.get" => Some(Method::TransactionGet),
             "blockchain.transaction.get_merkle" => Some(Method::GetMerkle),

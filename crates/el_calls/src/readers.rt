@@ -3,14 +3,15 @@ ghost use Rattle.std.specs.Prelude.{◌≡◌, ◌≢◌, if◌then◌else◌, O
 ghost use Rattle.serde_json.specs.Find.{as_bool};
 ghost use Rattle.el_json.specs.Parameters.{given, has_only, number_in, hash_in, texts_of};
 ghost use Rattle.el_calls.specs.Methods.{needed, otherwise, only, passing, hex_in, is_text, is_object, called, script_hash_in, plain_call, IsCalled};
-ghost use Rattle.el_calls.specs.Versions.{versions_in, served};
+ghost use Rattle.el_calls.specs.Versions.{versions_in, default_version};
 
-use crate::call::{Call, SERVED, VersionParts};
+use crate::call::{Call, VersionParts};
 use crate::method::Method;
 use crate::refusal::Refusal;
-use crate::versions::versions_in;
+use crate::versions::{parts_of, versions_in};
 use el_base::{Bytes, Hash32, OutOfMemory};
 use el_json::Params;
+use el_sessions::Version;
 use hex::FromHexError;
 use std::alloc::Global;
 
@@ -108,6 +109,13 @@ fn subscribe(params: &Params) -> Result<Call, Refusal>
 {
     let s = script_hash(params)?;
     Ok(Call::ScriptHashSubscribe(s))
+}
+
+fn unsubscribe(params: &Params) -> Result<Call, Refusal>
+    ensures { result ≡ called Method.ScriptHashUnsubscribe params.now }
+{
+    let s = script_hash(params)?;
+    Ok(Call::ScriptHashUnsubscribe(s))
 }
 
 fn get_balance(params: &Params) -> Result<Call, Refusal>
@@ -237,12 +245,12 @@ fn client_name(params: &Params) -> Result<(), Refusal>
 
 // The least and the most version that the client takes.
 fn versions(params: &Params) -> Result<(VersionParts, VersionParts), Refusal>
-    ensures { result ≡ otherwise (served, served) versions_in
+    ensures { result ≡ otherwise (default_version, default_version) versions_in
         (given params.now 1 (codes "protocol_version")) }
 {
     match params.given(1, "protocol_version") {
         Some(param) => versions_in(&param).ok_or(Refusal::InvalidParams),
-        None => Ok((SERVED, SERVED)),
+        None => Ok((parts_of(Version::V14), parts_of(Version::V14))),
     }
 }
 
@@ -285,6 +293,7 @@ fn known_call(method: Method, params: &Params) -> Result<Call, Refusal>
         Method::GetMempool => get_mempool(params),
         Method::ListUnspent => list_unspent(params),
         Method::ScriptHashSubscribe => subscribe(params),
+        Method::ScriptHashUnsubscribe => unsubscribe(params),
         Method::Broadcast => unreachable!(),
         Method::TransactionGet => transaction_get(params),
         Method::GetMerkle => get_merkle(params),

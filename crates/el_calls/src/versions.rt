@@ -1,11 +1,13 @@
 // Versions of the protocol, as clients write them.
-ghost use Rattle.std.specs.Prelude.{◌≡◌, ◌<◌, ◌+◌, ◌*◌, ℕ, length, take, drop, Some, None, IfSome, IfNone};
+ghost use Rattle.std.specs.Prelude.{◌≡◌, ◌<◌, ◌+◌, ◌*◌, ℕ, length, take, drop, Some, None, IfSome, IfNone, false};
 ghost use Rattle.std.specs.List.{list_all};
+ghost use Rattle.el_sessions.specs.declared.session.Version as shape;
 ghost use Rattle.el_calls.specs.Versions as defined;
 ghost use Rattle.el_calls.specs.Versions.{cut_at_dot};
 
-use crate::call::{SERVED, VersionParts};
+use crate::call::VersionParts;
 use el_json::Param;
+use el_sessions::Version;
 
 // A digit.
 fn digit_of(b: u8) -> Option<u16>
@@ -150,10 +152,67 @@ fn is_up_to(one: VersionParts, other: VersionParts) -> bool
             && (one.minor < other.minor || (one.minor == other.minor && one.patch <= other.patch)))
 }
 
-/// Whether the version that is served is among those that the client takes (Electrum Protocol 1.4,
-/// `server.version`).
-pub fn is_shared(least: VersionParts, most: VersionParts) -> bool
-    ensures { result ≡ defined.is_shared least most }
+// The versions that are served, the greatest first.
+const SERVED: [Version; 3] = [Version::V142, Version::V141, Version::V14];
+
+/// The greatest of the versions that are served.
+pub const PROTOCOL_MAX: Version = Version::V142;
+
+/// The least of the versions that are served.
+pub const PROTOCOL_MIN: Version = Version::V14;
+
+/// The parts of a version that is served.
+pub fn parts_of(version: Version) -> VersionParts
+    ensures { result ≡ defined.parts_of version }
 {
-    is_up_to(least, SERVED) && is_up_to(SERVED, most)
+    let patch = match version {
+        Version::V14 => 0,
+        Version::V141 => 1,
+        Version::V142 => 2,
+    };
+    VersionParts {
+        major: 1,
+        minor: 4,
+        patch,
+    }
+}
+
+/// A version that is served, as it is written.
+pub fn text_of(version: Version) -> &'static str
+    ensures { result.now ≡ defined.text_of version }
+{
+    match version {
+        Version::V14 => "1.4",
+        Version::V141 => "1.4.1",
+        Version::V142 => "1.4.2",
+    }
+}
+
+// Whether the version lies from the first to the second.
+fn lies_within(least: VersionParts, most: VersionParts, version: Version) -> bool
+    ensures { result ≡ defined.lies_within least most version }
+{
+    is_up_to(least, parts_of(version)) && is_up_to(parts_of(version), most)
+}
+
+// The first of the versions that lies from the first to the second.
+fn first_within(versions: &[Version], least: VersionParts, most: VersionParts) -> Option<Version>
+    ensures { result ≡ defined.first_within versions.now least most }
+{
+    for version in versions {
+        if lies_within(least, most, *version) {
+            return Some(*version);
+        }
+    }
+    None
+}
+
+/// The greatest of the versions that are served which lies from the first to the second; None exactly where
+/// none does (Electrum Protocol 1.4.2, `server.version`).
+pub fn greatest_shared(least: VersionParts, most: VersionParts) -> Option<Version>
+    ensures first { result ≡ defined.greatest_shared least most }
+    ensures greatest { IfSome result (defined.IsGreatest least most) }
+    ensures none { IfNone result ((other : shape.Version) → defined.lies_within least most other ≡ false) }
+{
+    first_within(&SERVED, least, most)
 }

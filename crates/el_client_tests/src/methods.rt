@@ -14,7 +14,7 @@ use el_plain::PlainLedger;
 use el_pool::Pool;
 use el_relay::Desk;
 use el_replies::{LineReply, reply_line};
-use el_sessions::{Session, Subs};
+use el_sessions::{Session, Subs, Watched};
 use el_side::{Caches, Holdings};
 use el_tx::{block_hash, encode_header};
 use std::alloc::Global;
@@ -226,7 +226,7 @@ const TWO_BLOCKS: &[Row] = &[
         "[]",
         Told::Gives(
             "{\"genesis_hash\":\"000000000019d6689c085ae165831e934ff763ae46a2a6c172b3f1b60a8ce26f\",\
-         \"hash_function\":\"sha256\",\"hosts\":{},\"protocol_max\":\"1.4\",\"protocol_min\":\"1.\
+         \"hash_function\":\"sha256\",\"hosts\":{},\"protocol_max\":\"1.4.2\",\"protocol_min\":\"1.\
          4\",\"pruning\":null,\"server_version\":\"el_serve 1.0\"}",
         ),
     ),
@@ -375,6 +375,7 @@ pub struct World {
     pub holdings: Holdings,
     pub caches: Caches,
     pub session: Session,
+    pub watched: Watched,
     pub desk: Desk,
     pub relay: MemRelay,
 }
@@ -484,6 +485,7 @@ pub fn world_of(alloc: Global, list: &[Bytes], failing: u64) -> Option<World> {
             headers: false,
             subs: Subs::new(alloc),
         },
+        watched: Watched::new(alloc),
         desk: Desk::new(alloc, false).ok()?,
         relay: MemRelay::new(alloc, Vec::new(alloc), Vec::new(alloc)),
     })
@@ -504,6 +506,7 @@ pub fn reply(alloc: Global, world: &mut World, line: &[u8]) -> Option<LineReply>
         &world.holdings,
         &mut world.caches,
         &mut world.session,
+        &mut world.watched,
         &mut world.desk,
         &mut world.relay,
         line,

@@ -91,6 +91,11 @@ const METHODS: &[Row] = &[
         1,
     ),
     (
+        "blockchain.scripthash.unsubscribe",
+        &[("scripthash", SOME_HASH, Kind::Hash)],
+        1,
+    ),
+    (
         "blockchain.transaction.broadcast",
         &[("raw_tx", "\"00\"", Kind::Hex)],
         1,

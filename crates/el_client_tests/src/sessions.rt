@@ -1,5 +1,5 @@
 // Lines, batches, and what is kept of a client. The lines and their replies are written out by hand from
-// JSON-RPC 2.0 and Electrum Protocol 1.4.
+// JSON-RPC 2.0 and Electrum Protocol 1.4.2.
 ghost use Rattle.std.specs.Prelude.{◌≤◌};
 ghost use Rattle.std.specs.List.{AllByRecursion};
 ghost use Rattle.el_tx.specs.Encoding.{HasEncoding};
@@ -50,9 +50,34 @@ const LINES: &[Row] = &[
         true,
     ),
     (
-        "{\"method\":\"server.version\",\"params\":[\"c\",[\"1.4.1\",\"2\"]]}",
+        "{\"method\":\"server.version\",\"params\":[\"c\",[\"1.4.3\",\"1.5\"]]}",
         b"",
         true,
+    ),
+    (
+        "{\"id\":1,\"method\":\"server.version\",\"params\":[\"c\",[\"1.4.2\",\"1.4\"]]}",
+        b"{\"error\":{\"code\":1,\"message\":\"version not shared\"},\"id\":1,\"jsonrpc\":\"2.0\"}\n",
+        true,
+    ),
+    (
+        "{\"id\":1,\"method\":\"server.version\",\"params\":[\"c\",\"1.4.1\"]}",
+        b"{\"id\":1,\"jsonrpc\":\"2.0\",\"result\":[\"el_serve 1.0\",\"1.4.1\"]}\n",
+        false,
+    ),
+    (
+        "{\"id\":1,\"method\":\"server.version\",\"params\":[\"electrum/4.3.4\",\"1.4\"]}",
+        b"{\"id\":1,\"jsonrpc\":\"2.0\",\"result\":[\"el_serve 1.0\",\"1.4\"]}\n",
+        false,
+    ),
+    (
+        "{\"id\":1,\"method\":\"server.version\",\"params\":[\"c\",[\"1.4.1\",\"2\"]]}",
+        b"{\"id\":1,\"jsonrpc\":\"2.0\",\"result\":[\"el_serve 1.0\",\"1.4.2\"]}\n",
+        false,
+    ),
+    (
+        "{\"id\":1,\"method\":\"server.version\"}",
+        b"{\"id\":1,\"jsonrpc\":\"2.0\",\"result\":[\"el_serve 1.0\",\"1.4\"]}\n",
+        false,
     ),
     (
         "[{\"id\":1,\"method\":\"server.version\",\"params\":[\"c\",\"1.5\"]},\
@@ -77,7 +102,7 @@ const IN_TURN: &[Row] = &[
     ),
     (
         "{\"id\":2,\"method\":\"server.version\",\"params\":[\"electrum/4.5\",[\"1.4\",\"1.4.2\"]]}",
-        b"{\"id\":2,\"jsonrpc\":\"2.0\",\"result\":[\"el_serve 1.0\",\"1.4\"]}\n",
+        b"{\"id\":2,\"jsonrpc\":\"2.0\",\"result\":[\"el_serve 1.0\",\"1.4.2\"]}\n",
         false,
     ),
     (
@@ -198,7 +223,7 @@ const BEFORE: &[Asked] = &[
         0,
         "server.version",
         "[\"electrum/4.5\",[\"1.4\",\"1.4.2\"]]",
-        "{\"id\":0,\"jsonrpc\":\"2.0\",\"result\":[\"el_serve 1.0\",\"1.4\"]}\n",
+        "{\"id\":0,\"jsonrpc\":\"2.0\",\"result\":[\"el_serve 1.0\",\"1.4.2\"]}\n",
     ),
     (
         1,
@@ -206,7 +231,7 @@ const BEFORE: &[Asked] = &[
         "[]",
         "{\"id\":1,\"jsonrpc\":\"2.0\",\"result\":{\"genesis_hash\":\"000000000019d6689c085ae1658\
          31e934ff763ae46a2a6c172b3f1b60a8ce26f\",\"hash_function\":\"sha256\",\"hosts\":{},\"prot\
-         ocol_max\":\"1.4\",\"protocol_min\":\"1.4\",\"pruning\":null,\"server_version\":\"el_ser\
+         ocol_max\":\"1.4.2\",\"protocol_min\":\"1.4\",\"pruning\":null,\"server_version\":\"el_ser\
          ve 1.0\"}}\n",
     ),
     (
@@ -379,7 +404,11 @@ fn hash_of(n: u32) -> Hash32 {
 fn subscribe_all(world: &mut World) -> bool {
     let mut done = true;
     for n in 0..SUBSCRIPTION_LIMIT as u32 {
-        done = world.session.subs.subscribe(hash_of(n), None).is_ok() && done;
+        done = world
+            .watched
+            .subscribe(&mut world.session.subs, hash_of(n), None)
+            .is_ok()
+            && done;
     }
     done
 }
@@ -408,6 +437,85 @@ fn limit_is_kept(alloc: Global) -> bool {
         Some(mut world) => subscribe_all(&mut world) && refuses_one(alloc, &mut world),
         None => false,
     }
+}
+
+const DROP_A_REPEATED_ONE: &[u8] =
+    b"{\"id\":1,\"method\":\"blockchain.scripthash.unsubscribe\",\"params\":[\
+      \"0000000000000000000000000000000000000000000000000000000000000001\"]}";
+
+const WAS_THERE: &[u8] = b"{\"id\":1,\"jsonrpc\":\"2.0\",\"result\":true}\n";
+
+const WAS_NOT: &[u8] = b"{\"id\":1,\"jsonrpc\":\"2.0\",\"result\":false}\n";
+
+// Whether one that was refused is answered once another one is dropped.
+fn makes_room(alloc: Global, world: &mut World) -> bool {
+    says(alloc, world, ONE_TOO_MANY, TOO_MANY, false)
+        && says(alloc, world, DROP_A_REPEATED_ONE, WAS_THERE, false)
+        && says(alloc, world, ONE_TOO_MANY, NOT_USED, false)
+        && says(alloc, world, A_REPEATED_ONE, TOO_MANY, false)
+        && world.session.subs.held() == SUBSCRIPTION_LIMIT
+}
+
+fn room_is_made(alloc: Global) -> bool {
+    match world_of(alloc, &[], 0) {
+        Some(mut world) => subscribe_all(&mut world) && makes_room(alloc, &mut world),
+        None => false,
+    }
+}
+
+#[test]
+fn a_dropped_subscription_makes_room(rt: HostRuntime) -> Result<(), Fail> {
+    assert!(rt; room_is_made(rt.alloc()));
+    Ok(())
+}
+
+const THE_REPEATED_ONE: Hash32 = Hash32([
+    1, 0, 0, 0, 0, 0, 0, 0, 0, 0, 0, 0, 0, 0, 0, 0, 0, 0, 0, 0, 0, 0, 0, 0, 0, 0, 0, 0, 0, 0, 0, 0,
+]);
+
+// Whether one is dropped once, and is then counted no more; in a session that agreed no version.
+fn drops_once(alloc: Global, world: &mut World) -> bool {
+    says(alloc, world, DROP_A_REPEATED_ONE, WAS_NOT, false)
+        && says(alloc, world, A_REPEATED_ONE, NOT_USED, false)
+        && world.watched.counts(&THE_REPEATED_ONE)
+        && says(alloc, world, DROP_A_REPEATED_ONE, WAS_THERE, false)
+        && !world.watched.counts(&THE_REPEATED_ONE)
+        && says(alloc, world, DROP_A_REPEATED_ONE, WAS_NOT, false)
+        && world.session.subs.held() == 0
+}
+
+fn one_is_dropped(alloc: Global) -> bool {
+    match world_of(alloc, &[], 0) {
+        Some(mut world) => drops_once(alloc, &mut world),
+        None => false,
+    }
+}
+
+#[test]
+fn a_subscription_is_dropped_once(rt: HostRuntime) -> Result<(), Fail> {
+    assert!(rt; one_is_dropped(rt.alloc()));
+    Ok(())
+}
+
+// What one client says in this order that agrees 1.4.
+const DROPS_AT_1_4: &[Row] = &[
+    (
+        "{\"id\":1,\"method\":\"server.version\",\"params\":[\"c\",\"1.4\"]}",
+        b"{\"id\":1,\"jsonrpc\":\"2.0\",\"result\":[\"el_serve 1.0\",\"1.4\"]}\n",
+        false,
+    ),
+    (
+        "{\"id\":1,\"method\":\"blockchain.scripthash.unsubscribe\",\"params\":[\
+          \"0000000000000000000000000000000000000000000000000000000000000001\"]}",
+        b"{\"id\":1,\"jsonrpc\":\"2.0\",\"result\":false}\n",
+        false,
+    ),
+];
+
+#[test]
+fn dropping_stands_in_each_version(rt: HostRuntime) -> Result<(), Fail> {
+    assert!(rt; are_told(rt.alloc(), DROPS_AT_1_4));
+    Ok(())
 }
 
 #[test]

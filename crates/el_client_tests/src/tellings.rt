@@ -137,6 +137,64 @@ fn told_in_order(rt: HostRuntime) -> Result<(), Fail> {
     Ok(())
 }
 
+// Subscribes anew to the first of the three; the other two stay in their order.
+fn subscribe_again(world: &mut World) -> bool {
+    let first = hash(SCRIPT_101);
+    world.session.subs.unsubscribe(&first)
+        && !world.session.subs.unsubscribe(&first)
+        && world
+            .session
+            .subs
+            .subscribe(first, Some(told(BEFORE_101)))
+            .is_ok()
+}
+
+fn tells_last(alloc: Global, world: &mut World, touched: &Touched) -> bool {
+    let rows = [
+        (hash(SCRIPT_100), Some(told(AFTER_100))),
+        (hash(SCRIPT_101), Some(told(AFTER_101))),
+    ];
+    tells(alloc, world, touched, rows.as_slice())
+}
+
+fn tells_again(alloc: Global) -> bool {
+    let mut world = begun(alloc);
+    if !subscribe_again(&mut world) {
+        return false;
+    }
+    match touched_by_both(alloc, &mut world) {
+        Some(touched) => tells_last(alloc, &mut world, &touched),
+        None => false,
+    }
+}
+
+// One that was dropped and subscribed again stands last.
+#[test]
+fn told_last(rt: HostRuntime) -> Result<(), Fail> {
+    assert!(rt; tells_again(rt.alloc()));
+    Ok(())
+}
+
+fn tells_other(alloc: Global, world: &mut World) -> bool {
+    let rows = [(hash(SCRIPT_100), Some(told(AFTER_100)))];
+    match touched_by_both(alloc, world) {
+        Some(touched) => tells(alloc, world, &touched, rows.as_slice()),
+        None => false,
+    }
+}
+
+fn tells_no_dropped(alloc: Global) -> bool {
+    let mut world = begun(alloc);
+    world.session.subs.unsubscribe(&hash(SCRIPT_101)) && tells_other(alloc, &mut world)
+}
+
+// Of one that was dropped nothing is told.
+#[test]
+fn dropped_not_told(rt: HostRuntime) -> Result<(), Fail> {
+    assert!(rt; tells_no_dropped(rt.alloc()));
+    Ok(())
+}
+
 // The lines about both.
 const SCRIPT_LINES: &[&[u8]] = &[
     b"{\"jsonrpc\":\"2.0\",\"method\":\"blockchain.scripthash.subscribe\",\"params\":[\"87db42382cbedc175498\

@@ -20,7 +20,7 @@ use Rattle.el_lines.specs.LineStates.{LineState}
 use Rattle.el_lines.specs.declared.line_buffer.LineEvent.TheVariants as event
 use Rattle.el_core.specs.State.{State, ClientState, HearsLeft, in_order, losing, IsSession, SessionsAre, NodeLeaves, Stands}
 use Rattle.el_core.specs.Turn.{HasLost, MeetsLine, WaitsToBeTold, outs_of, closing_of}
-use Rattle.el_core.specs.within.Clients.{Passing, replied, starved, uncounted, Gives, NextIsLine, ClientTurn, nobody, gone, steps, loses, departs, answers, waits, PeersTurn, closes, has_turn, TellTurn, TellsAt, IsToTell, IsFirstWaiting}
+use Rattle.el_core.specs.within.Clients.{Passing, replied, starved, Gives, NextIsLine, ClientTurn, nobody, gone, steps, loses, departs, answers, waits, PeersTurn, closes, has_turn, TellTurn, TellsAt, IsToTell, IsFirstWaiting}
 use Rattle.el_core.specs.within.Clients as telling
 use Rattle.el_core.specs.declared.out.Outs as code
 use Rattle.el_core.proofs.Places.{there_at, all_at, zip_at}
@@ -198,8 +198,6 @@ module _ {G : Type 0} (stands : G → Chain → Type 0) where
   memory_of tells side rose s world c o next left p q i w at (answers o' (event.Line bytes) b now st kept limit gives (replied losses reply comes outs_is st_is lost) now_is some) told =
       absurd (version_other c.peer p reply.text reply.closes (closing_is o o' _ p some outs_is told))
   memory_of tells side rose s world c o next left p q i w at (answers o' (event.Line bytes) b now st kept limit gives (starved losses e comes outs_is st_is lost) now_is some) told =
-      inr (meets c w.session.heard left p kept w.is.limit w.hears (gives_line c b bytes gives) (same_peer c.peer p (closing_is o o' _ p some outs_is told)))
-  memory_of tells side rose s world c o next left p q i w at (answers o' (event.Line bytes) b now st kept limit gives (uncounted losses reply comes more outs_is st_is lost) now_is some) told =
       inr (meets c w.session.heard left p kept w.is.limit w.hears (gives_line c b bytes gives) (same_peer c.peer p (closing_is o o' _ p some outs_is told)))
   memory_of tells side rose s world c o next left p q i w at (answers o' (event.TooLong most) b now st kept limit gives a now_is some) told =
       absurd (long_other c.peer p (closing_is o o' _ p some a.0 told))

@@ -10,7 +10,6 @@ use Rattle.el_model.specs.LedgerCalls.{Moved}
 use Rattle.el_lines.proofs.Cuts.{either}
 use Rattle.el_lines.specs.Lines.{LineEvent, line, too_long, lines}
 use Rattle.el_lines.specs.NodeAnswers.{node_limit}
-use Rattle.el_sessions.specs.Sessions.{HasAdded}
 use Rattle.el_sessions.specs.declared.session.Session as known
 use Rattle.el_replies.specs.declared.line.LineReply.{LineReply}
 use Rattle.el_subs.specs.Told as status_told
@@ -28,7 +27,7 @@ use Rattle.el_lines.specs.LineStates.{LineState, IsAt}
 use Rattle.el_lines.specs.declared.line_buffer.LineEvent.TheVariants as event
 use Rattle.el_core.specs.State.{State, ClientState, HasGivenAll, HearsLeft, in_order, IsSession, SessionsAre, Leaves, NoneWaits, Tellings, AllVoid, IsSaidBy, NodeLeaves, Stands, is_numbered, lent, asking_of}
 use Rattle.el_core.specs.Turn.{TookTurn, IsDone, GoesTo, outs_of}
-use Rattle.el_core.specs.within.Clients.{Passing, passing, IsIdly, LineAnswered, replied, starved, uncounted, Gives, ClientTurn, loses, departs, answers, waits, nobody, gone, steps, PeersTurn, closes, has_turn, replaced, left_if, speaker_after}
+use Rattle.el_core.specs.within.Clients.{Passing, passing, IsIdly, LineAnswered, replied, starved, Gives, ClientTurn, loses, departs, answers, waits, nobody, gone, steps, PeersTurn, closes, has_turn, replaced, left_if, speaker_after}
 use Rattle.el_core.specs.declared.out.Outs as code
 use Rattle.el_core.proofs.Places.{Both, IfThere, same_some, no_some, zip_at, zip_replaced, all_at, all_replaced, rising_replaced, one_mapped, one_filtered, one_found, one_there, gone_itself, found_none, none_there}
 use Rattle.el_world.proofs.KeepTold.{replies_keep_told}
@@ -287,18 +286,6 @@ module _ {G A Y : Type 0} (of : AskedGhosts G A Y) where
       closed_step old new before after y z world left o r told p i c b (line bytes) losses w peer_is kept gives clients speaker unused
       (line_takes old world r.stood.said o p i c w bytes losses (without_client p (record world { desk = new.desk })) (model.starved e now new.desk comes' is refl)) (λ next. rw is tt) rose
 
-  -- no memory was found to keep count of what it subscribed to
-  uncounted_step : (old new : State G) (before after : A) (y z : Y) (world : World) (left : List Event) (o : Outs) (r : Beside old new world left) (told : of.beneath.files.tells → AllGrow world.side.files (of.beneath.files.bytes after)) (p i : ℕ) (c : ClientState) (b : LineState)
-      (bytes : List ℕ) (now : known.Session) (losses : List Deed) (reply : LineReply) (w : Speaking old world r.stood.said p i c) → c.peer ≡ p → c.lost ≡ false → Gives c.buffer (line bytes) b
-      → new.clients ≡ replaced i None old.clients → new.speaker ≡ None → new.surplus ≡ None
-      → Comes of.beneath.files.tells world.side bytes (standing c.session old.desk) losses (standing now new.desk) (Ok reply) → HasAdded c.session.subs now.subs → o ≡ closes_memory p → Did of (asking_of (lent old before y)) (asking_of (lent new after z)) losses
-      → TookTurn of (lent old before y) (lent new after z) world left o
-  uncounted_step old new before after y z world left o r told p i c b bytes now losses reply w peer_is kept gives clients speaker unused comes more is rose =
-      let comes' = subst (λ (s : Standing). Comes of.beneath.files.tells world.side bytes s losses (standing now new.desk) (Ok reply)) (rw (w.is.kept, r.stood.desk) refl) comes in
-      let more' = subst (λ (s : known.Session). HasAdded s.subs now.subs) w.is.kept more in
-      closed_step old new before after y z world left o r told p i c b (line bytes) losses w peer_is kept gives clients speaker unused
-      (line_takes old world r.stood.said o p i c w bytes losses (without_client p (record world { desk = new.desk })) (model.uncounted reply now new.desk comes' more' is refl)) (λ next. rw is tt) rose
-
   -- what it gets goes to it
   reply_goes : (p : ℕ) (text : Option (List ℕ)) (closes_it : Bool) (next : World) → (closes_it ≡ false → is_client p next ≡ true)
       → AllByRecursion (GoesTo next None (outs_of_reply p (record { text = text; closes = closes_it })).closing) (outs_of_reply p (record { text = text; closes = closes_it })).messages
@@ -369,9 +356,6 @@ module _ {G A Y : Type 0} (of : AskedGhosts G A Y) where
   line_step old new before after y z world left o r told p i c b bytes now st w peer_is kept limit gives staying going unused (starved losses e comes is st_is rose) =
       let g = going st_is in
       starved_step old new before after y z world left o r told p i c b bytes now losses e w peer_is kept gives g.0 g.1 unused comes is rose
-  line_step old new before after y z world left o r told p i c b bytes now st w peer_is kept limit gives staying going unused (uncounted losses reply comes more is st_is rose) =
-      let g = going st_is in
-      uncounted_step old new before after y z world left o r told p i c b bytes now losses reply w peer_is kept gives g.0 g.1 unused comes more is rose
   line_step old new before after y z world left o r told p i c b bytes now st w peer_is kept limit gives staying going unused (replied losses reply comes is st_is rose) = elim (either reply.closes) [
     | inl h ↦
         let g = going (st_is ∙ ap not h) in

@@ -6,12 +6,6 @@ use Rattle.el_core.specs.State.{ClientState, work_of_client}
 use Rattle.el_core.specs.declared.out.Outs.{Outs}
 use Rattle.el_core.specs.within.Clients.{replaced, left_if, all_wait, TurnsAt, TellsAt}
 
--- what was put there stands there
-pub set_read : {A : Type 0} (xs : List A) (i : ℕ) (y : A) → i < length xs → slice_get (slice_set xs i y) i ≡ Some y
-set_read [] i y lt = absurd (omega arith)
-set_read (x ∷ xs) zero y lt = refl
-set_read (x ∷ xs) (suc i) y lt = set_read xs i y (omega arith)
-
 pub set_is_replaced : {A : Type 0} (xs : List A) (i : ℕ) (y : A) → i < length xs → slice_set xs i y ≡ replaced i (Some y) xs
 set_is_replaced [] i y lt = absurd (omega arith)
 set_is_replaced (x ∷ xs) zero y lt = refl
@@ -54,20 +48,6 @@ module _ (says : ClientState → Option ClientState → Type 0) (i : ℕ) (items
     same = tt;
     less = rw goes_so at less;
     said = rw goes_so at said;
-  }
-
-  -- it would stay, and is taken away
-  pub turn_late : (late : Outs) (next : List ClientState) → i < length items → client ≡ get_or items i client → says client None → next ≡ replaced i None (slice_set items i new)
-      → TurnsAt says i items (Some late) false next
-  turn_late late next lt is said gone = record {
-    client = client;
-    left = None;
-    at = slice_get_read items (length items) i client refl lt is;
-    next_is = gone ∙ set_then_gone items i new;
-    stays_is = refl;
-    same = tt;
-    less = omega arith;
-    said = said;
   }
 
   pub tell_stays : (stays : Bool) → i < length items → client ≡ get_or items i client → stays ≡ true → (stays ≡ true → new.waits ≡ false) → (new.buffer ≡ client.buffer) × (new.peer ≡ client.peer) → says client (left_if stays new)

@@ -14,7 +14,7 @@ ghost use Rattle.el_side.specs.Beneath.{beneath, ghosts};
 ghost use Rattle.el_side.specs.Side.{Side, IsSure};
 ghost use Rattle.el_world.specs.World.{StaysSubscribed, line_limit, new_client, outs_of_reply, reply_to};
 ghost use Rattle.el_lines.specs.LineStates.{as_listed, held};
-ghost use Rattle.el_sessions.specs.Sessions.{Edits};
+ghost use Rattle.el_sessions.specs.Watching.{Follows};
 ghost use Rattle.el_replies.specs.RowBounds.{LineReads, ReadsWithin};
 ghost use Rattle.el_core.specs.State.{HasGivenAll, HasNoWork, IsHeardOut, work_of_client};
 ghost use Rattle.el_core.specs.Turn.{messages_of, outs_of};
@@ -114,11 +114,11 @@ impl Client {
         self.waits = true;
     }
 
-    /// What the client subscribes to.
-    pub fn subs(&self) -> &Subs
-        ensures { result.now ≡ self.now.session.subs }
+    /// What the client subscribes to, once it is gone.
+    pub fn into_subs(self) -> Subs
+        ensures { result ≡ self.session.subs }
     {
-        &self.session.subs
+        self.session.subs
     }
 
     /// The lines that the client is told of the node's last line. It then waits no more, and what it was told
@@ -271,7 +271,7 @@ fn replying(alloc: Global, room: Vec<(Peer, Bytes)>, p: Peer, reply: LineReply) 
 
 // What a client gets for a line, and whether it stays. The room for the message is taken before the line is
 // looked at: where there is none, nothing was asked.
-#[tactic(auto, using(el_sessions::proofs::Subscribing::edits_same))]
+#[tactic(auto, using(el_sessions::proofs::Counting::follows_same))]
 fn answer_line<G: Ledger, A: Archive, Y: Relay>(
     alloc: Global,
     ledger: &mut G,
@@ -281,6 +281,7 @@ fn answer_line<G: Ledger, A: Archive, Y: Relay>(
     desk: &mut Desk,
     relay: &mut Y,
     client: &mut Client,
+    watched: &mut Watched,
     line: &[u8],
 ) -> (Outs, bool)
     requires live { G.is_live ledger.old }
@@ -297,7 +298,7 @@ fn answer_line<G: Ledger, A: Archive, Y: Relay>(
     ensures archive_more { A.faults archive.old ≤ A.faults archive.new }
     ensures relay_more { Y.faults relay.old ≤ Y.faults relay.new }
     ensures same { client.new ≡ record client.old { session = client.new.session } }
-    ensures edits { Edits client.old.session.subs client.new.session.subs }
+    ensures watched { Follows client.old.session.subs client.new.session.subs watched.old watched.new }
     ensures rows { (chain : Chain) → G.stands ledger.old chain → CachesStand caches.old chain chain
         → ReadsWithin (LineReads chain (G.buckets ledger.old) (line_says line.now))
         (G.reads ledger.old) (G.reads ledger.new) }
@@ -313,6 +314,7 @@ fn answer_line<G: Ledger, A: Archive, Y: Relay>(
         holdings,
         caches,
         &mut client.session,
+        watched,
         desk,
         relay,
         line,
@@ -327,7 +329,7 @@ fn answer_line<G: Ledger, A: Archive, Y: Relay>(
 
 // What a client gets for what was met in its bytes: the reply to a line, or its closing; and whether it
 // stays.
-#[tactic(auto, using(el_sessions::proofs::Subscribing::edits_same))]
+#[tactic(auto, using(el_sessions::proofs::Counting::follows_same))]
 fn answer<G: Ledger, A: Archive, Y: Relay>(
     alloc: Global,
     ledger: &mut G,
@@ -337,6 +339,7 @@ fn answer<G: Ledger, A: Archive, Y: Relay>(
     desk: &mut Desk,
     relay: &mut Y,
     client: &mut Client,
+    watched: &mut Watched,
     met: LineEvent,
 ) -> (Outs, bool)
     requires live { G.is_live ledger.old }
@@ -353,7 +356,7 @@ fn answer<G: Ledger, A: Archive, Y: Relay>(
     ensures archive_more { A.faults archive.old ≤ A.faults archive.new }
     ensures relay_more { Y.faults relay.old ≤ Y.faults relay.new }
     ensures same { client.new ≡ record client.old { session = client.new.session } }
-    ensures edits { Edits client.old.session.subs client.new.session.subs }
+    ensures watched { Follows client.old.session.subs client.new.session.subs watched.old watched.new }
     ensures rows { (chain : Chain) → G.stands ledger.old chain → CachesStand caches.old chain chain
         → ReadsWithin (EventReads chain (G.buckets ledger.old) met)
         (G.reads ledger.old) (G.reads ledger.new) }
@@ -373,6 +376,7 @@ fn answer<G: Ledger, A: Archive, Y: Relay>(
                 desk,
                 relay,
                 client,
+                watched,
                 line.as_slice(),
             )
         }
@@ -381,7 +385,7 @@ fn answer<G: Ledger, A: Archive, Y: Relay>(
 
 /// One turn of a client: the reply to its next line, its closing, or nothing where no whole line is left; and
 /// whether the client stays.
-#[tactic(auto, using(el_sessions::proofs::Subscribing::edits_same))]
+#[tactic(auto, using(el_sessions::proofs::Counting::follows_same))]
 pub fn client_turn<G: Ledger, A: Archive, Y: Relay>(
     alloc: Global,
     ledger: &mut G,
@@ -391,6 +395,7 @@ pub fn client_turn<G: Ledger, A: Archive, Y: Relay>(
     desk: &mut Desk,
     relay: &mut Y,
     client: &mut Client,
+    watched: &mut Watched,
 ) -> (Option<Outs>, bool)
     requires live { G.is_live ledger.old }
 
@@ -413,8 +418,8 @@ pub fn client_turn<G: Ledger, A: Archive, Y: Relay>(
     ensures archive_more { A.faults archive.old ≤ A.faults archive.new }
     ensures relay_more { Y.faults relay.old ≤ Y.faults relay.new }
     ensures same { (client.new.peer ≡ client.old.peer) × (client.new.waits ≡ client.old.waits) }
-    ensures edits { Edits client.old.session.subs client.new.session.subs }
     ensures idle { IfNone result.0 ((client.new ≡ client.old) × (result.1 ≡ true)) }
+    ensures watched { Follows client.old.session.subs client.new.session.subs watched.old watched.new }
 
     // How many rows are read: at most those of the calls that its next line asks for, each once.
     ensures rows { (chain : Chain) → G.stands ledger.old chain → CachesStand caches.old chain chain
@@ -430,7 +435,7 @@ pub fn client_turn<G: Ledger, A: Archive, Y: Relay>(
         Ok(None) => (None, true),
         Ok(Some(met)) => {
             let (outs, stays) = answer(
-                alloc, ledger, archive, holdings, caches, desk, relay, client, met,
+                alloc, ledger, archive, holdings, caches, desk, relay, client, watched, met,
             );
             (Some(outs), stays)
         }

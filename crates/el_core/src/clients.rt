@@ -16,17 +16,17 @@ ghost use Rattle.el_core.specs.within.Clients.{IsPlace, IsFirstWaiting, HearsAt,
 ghost use Rattle.el_core.specs.State.{ClientState};
 ghost use Rattle.el_core.specs.within.RowBounds.{ClientReads};
 ghost use Rattle.el_core.specs.within.Touching.{is_held};
-ghost use Rattle.el_core.specs.within.Watching.{Counts, CountsFew, HasMore};
+ghost use Rattle.el_core.specs.within.Watching.{Counts};
 
-use crate::client::{Client, client_turn, closing};
+use crate::client::{Client, client_turn};
 use crate::out::Outs;
 use crate::telling::tell_turn;
-use crate::watching::Watched;
 use el_base::{Hash32, OutOfMemory};
 use el_chain::Touched;
 use el_model::Ledger;
-use el_outside::{Archive, Peer, Relay, Why};
+use el_outside::{Archive, Peer, Relay};
 use el_relay::Desk;
+use el_sessions::Watched;
 use el_side::{Caches, Holdings};
 use std::alloc::Global;
 use std::marker::Model;
@@ -60,34 +60,15 @@ fn await_all(list: &mut Vec<Client>)
     }
 }
 
-// Takes away the client at that place, of whose subscriptions so many are counted, the first ones.
-fn take_out(list: &mut Vec<Client>, watched: &mut Watched, i: usize, few: usize)
+// Takes away the client at that place, and counts its subscriptions no more.
+fn take_out(list: &mut Vec<Client>, watched: &mut Watched, i: usize)
     requires inside { i < length list.old.items }
-    requires few { CountsFew i few watched.old list.old.items }
+    requires counts { Counts watched.old list.old.items }
     ensures gone { list.new.items ≡ replaced i None list.old.items }
     ensures counts { Counts watched.new list.new.items }
 {
-    watched.uncount(list[i].subs(), few);
-    list.remove(i);
-}
-
-// Counts the subscriptions of the client at that place from `known` on. Where there is no memory for one, the
-// client is taken away. Whether it stays.
-fn count_new(list: &mut Vec<Client>, watched: &mut Watched, i: usize, known: usize) -> bool
-    requires inside { i < length list.old.items }
-    requires few { CountsFew i known watched.old list.old.items }
-    ensures stays { result ≡ true → list.new.items ≡ list.old.items }
-    ensures gone { result ≡ false → list.new.items ≡ replaced i None list.old.items }
-    ensures more { result ≡ false → HasMore i known list.old.items }
-    ensures counts { Counts watched.new list.new.items }
-{
-    match watched.count_from(list[i].subs(), known) {
-        Ok(()) => true,
-        Err(few) => {
-            take_out(list, watched, i, few);
-            false
-        }
-    }
+    let mut subs = list.remove(i).into_subs();
+    watched.uncount(&mut subs);
 }
 
 impl Clients {
@@ -163,8 +144,7 @@ impl Clients {
         requires { i < length self.old }
         ensures { self.new ≡ replaced i None self.old }
     {
-        let few = self.list[i].subs().held();
-        take_out(&mut self.list, &mut self.watched, i, few);
+        take_out(&mut self.list, &mut self.watched, i);
     }
 
     /// Takes away the client with that number, if there is one.
@@ -184,8 +164,7 @@ impl Clients {
         self.list[i].hear(bytes);
     }
 
-    /// A turn of the client at that place, which is gone where it was closed. It is closed as out of memory
-    /// where there is none to count what it has then subscribed to.
+    /// A turn of the client at that place, which is gone where it was closed.
     pub fn turn<G: Ledger, A: Archive, Y: Relay>(
         &mut self,
         alloc: Global,
@@ -221,8 +200,6 @@ impl Clients {
             → ReadsWithin (ClientReads chain (G.buckets ledger.old) c)
             (G.reads ledger.old) (G.reads ledger.new) }
     {
-        let peer = self.list[i].peer();
-        let known = self.list[i].subs().held();
         let (outs, stays) = client_turn(
             alloc,
             ledger,
@@ -232,18 +209,13 @@ impl Clients {
             desk,
             relay,
             &mut self.list[i],
+            &mut self.watched,
         );
-        let Some(outs) = outs else {
-            return (None, true);
-        };
         if !stays {
-            take_out(&mut self.list, &mut self.watched, i, known);
-            return (Some(outs), false);
+            take_out(&mut self.list, &mut self.watched, i);
+            return (outs, false);
         }
-        if count_new(&mut self.list, &mut self.watched, i, known) {
-            return (Some(outs), true);
-        }
-        (Some(closing(alloc, peer, Why::Memory)), false)
+        (outs, true)
     }
 
     /// The telling of the client at that place, which is gone where it was closed for it.

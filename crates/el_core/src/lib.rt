@@ -10,7 +10,6 @@ mod out;
 mod server;
 mod telling;
 mod touching;
-mod watching;
 
 pub use out::Outs;
 pub use server::Server;

@@ -13,7 +13,7 @@ use Rattle.el_lines.specs.declared.node_answer.NodeAnswer.{NodeAnswer}
 use Rattle.el_subs.specs.Told.{status}
 use Rattle.el_subs.specs.Notices.{notices}
 use Rattle.el_side.specs.Side.{Side}
-use Rattle.el_world.specs.World.{World, Session, Event, joins, leaves, says, orders, Outs, IsLed, Takes, Replied, replied, starved, uncounted, Notifies, tells as is_told, fails, unsure, told, begun, outs_of_telling, texts_to, with_session, is_peer, is_client, without_client, client_limit}
+use Rattle.el_world.specs.World.{World, Session, Event, joins, leaves, says, orders, Outs, IsLed, Takes, Replied, replied, starved, Notifies, tells as is_told, fails, unsure, told, begun, outs_of_telling, texts_to, with_session, is_peer, is_client, without_client, client_limit}
 use Rattle.el_side.specs.Deeds.{Deed}
 use Rattle.el_world.specs.Run.{OneTurn, takes, works, notifies, departs}
 use Rattle.el_lines.proofs.Cuts.{either}
@@ -94,10 +94,6 @@ by_line tells trace world p bytes (Some session) outs losses next is
     ]
 by_line tells trace world p bytes (Some session) outs losses next is (starved e kept desk comes outs_is next_is)
     are =
-    shut trace (record world { desk = desk }) p why.Memory outs next (found_client world.sessions p session is)
-    (rw outs_is refl) next_is are
-by_line tells trace world p bytes (Some session) outs losses next is
-    (uncounted reply kept desk comes more outs_is next_is) are =
     shut trace (record world { desk = desk }) p why.Memory outs next (found_client world.sessions p session is)
     (rw outs_is refl) next_is are
 
@@ -386,8 +382,6 @@ event_to_one of_files world (says p (line bytes)) outs losses next t =
         (replied reply kept desk comes outs_is next_is) = (p, rw outs_is (all_to p (option_to_list reply.text)))
     line_to_one tells world p bytes (Some session) outs losses next
         (starved e kept desk comes outs_is next_is) = (p, rw outs_is tt)
-    line_to_one tells world p bytes (Some session) outs losses next
-        (uncounted reply kept desk comes more outs_is next_is) = (p, rw outs_is tt)
 event_to_one of_files world (says p too_long) outs losses next t = elim (either (is_client p world)) [
   | inl h ↦ let e = rw h at t in (0, rw e.0 tt)
   | inr h ↦ let e = rw h at t in (0, rw e.0 tt)

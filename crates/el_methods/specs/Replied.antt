@@ -1,4 +1,4 @@
--- What each call is answered (Electrum Protocol 1.4): the table of methods.
+-- What each call is answered (Electrum Protocol 1.4.2): the table of methods.
 use Rattle.std.specs.Prelude.{◌≡◌, ◌≢◌, ◌⊎◌, ⊤, negsuc, Bool, true, false, not, if◌then◌else◌, List, [], Option, None, Some, Result, Ok, Err, OnErr, codes}
 use Rattle.serde_json.specs.Data.{Data, null, boolean, number, string, array, no_items, item}
 use Rattle.serde_json.specs.Find.{of_integer}
@@ -16,10 +16,9 @@ use Rattle.el_methods.specs.Archives.{HasAsked}
 use Rattle.el_methods.specs.Outcomes.{IsReplyWith, RefusesOnly, TellsNoFiles}
 use Rattle.el_methods.specs.declared.stop.Stop.{Stop}
 use Rattle.el_methods.specs.declared.stop.Stop.TheVariants as stop
-use Rattle.el_calls.specs.Versions.{is_shared}
-use Rattle.el_sessions.specs.Sessions.{Subscription}
+use Rattle.el_calls.specs.Versions.{greatest_shared, text_of}
+use Rattle.el_sessions.specs.Sessions.{Subscription, is_subscribed, unsubscribed}
 use Rattle.el_sessions.specs.declared.session.Version.{Version}
-use Rattle.el_sessions.specs.declared.session.Version.TheVariants as version
 use Rattle.el_calls.specs.declared.call.VersionParts.{VersionParts}
 use Rattle.el_calls.specs.declared.refusal.Refusal.TheVariants as refusal
 use Rattle.el_sessions.specs.declared.session.Session.{Session}
@@ -43,16 +42,18 @@ abbrev pub with_subscriptions :
 with_subscriptions s (Ok answer) = Ok (answer.0, record s { subs = answer.1 })
 with_subscriptions s (Err r) = Err r
 
--- server.version: once, and only where the version is shared
+-- it has agreed that version, or shares none
+abbrev pub agreed_on : Session → Option Version → Result (Data × Session) Refusal
+agreed_on s None = Err refusal.VersionNotShared
+agreed_on s (Some v) = Ok (
+  array (item (string (codes "el_serve 1.0")) (item (string (text_of v)) no_items)),
+  record s { version = Some v },
+)
+
+-- server.version: once, the greatest version that is shared
 abbrev pub agreed : Session → Option Version → VersionParts → VersionParts → Result (Data × Session) Refusal
 agreed s (Some before) least most = Err refusal.VersionAgreed
-agreed s None least most =
-    if is_shared least most then
-    Ok (
-      array (item (string (codes "el_serve 1.0")) (item (string (codes "1.4")) no_items)),
-      record s { version = Some version.V14 },
-    )
-    else Err refusal.VersionNotShared
+agreed s None least most = agreed_on s (greatest_shared least most)
 
 -- What each call is answered over a chain, the unconfirmed transactions that are kept and the headers that
 -- were found, and what is kept of the client afterwards.
@@ -83,6 +84,8 @@ replied chain kept found s (call.ListUnspent script_hash) =
     with_session s (result.list_unspent chain kept script_hash.0)
 replied chain kept found s (call.ScriptHashSubscribe script_hash) =
     with_subscriptions s (result.script_hash_subscribe chain kept s.subs script_hash)
+replied chain kept found s (call.ScriptHashUnsubscribe script_hash) =
+    Ok (boolean (is_subscribed script_hash s.subs), record s { subs = unsubscribed script_hash s.subs })
 replied chain kept found s (call.Broadcast bytes) = Err refusal.NoRelay
 replied chain kept found s (call.TransactionGet id verbose) =
     with_session s (result.transaction_get chain kept id verbose)

@@ -30,6 +30,7 @@ use Rattle.el_view.specs.declared.views.Balance.{Balance}
 use Rattle.el_model.specs.Queries.{header_at, height_of, hashes_to, newest, txids_at}
 use Rattle.el_methods.specs.declared.limits.TheConstants.{ENTRY_LIMIT}
 use Rattle.el_calls.specs.Methods.{◌>>=◌}
+use Rattle.el_calls.specs.Versions.{text_of, protocol_max, protocol_min}
 use Rattle.el_sessions.specs.Sessions.{Subscription, is_subscribed, subscribed}
 use Rattle.el_methods.specs.declared.blocks.TheConstants.{HEADER_LIMIT}
 use Rattle.el_sessions.specs.declared.session.TheConstants.{SUBSCRIPTION_LIMIT}
@@ -302,8 +303,8 @@ script_hash_subscribe chain kept subs s =
 abbrev pub features_value : Hash32 → Data
 features_value genesis =
     object_of ((codes "genesis_hash", shown_hash genesis) ∷ (codes "hash_function", string (codes "sha256"))
-    ∷ (codes "hosts", object no_members) ∷ (codes "protocol_max", string (codes "1.4"))
-    ∷ (codes "protocol_min", string (codes "1.4")) ∷ (codes "pruning", null)
+    ∷ (codes "hosts", object no_members) ∷ (codes "protocol_max", string (text_of protocol_max))
+    ∷ (codes "protocol_min", string (text_of protocol_min)) ∷ (codes "pruning", null)
     ∷ (codes "server_version", string (codes "el_serve 1.0")) ∷ [])
 
 -- of the headers that were found

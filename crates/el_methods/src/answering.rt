@@ -12,7 +12,8 @@ ghost use Rattle.el_methods.specs.Archives.{HasAsked};
 ghost use Rattle.el_methods.specs.RowBounds.{rows_of};
 ghost use Rattle.el_methods.specs.Outcomes.{IsReplyWith, IsCounted, IsDiskCounted, RefusesOnly, TellsNoFiles, IsPrintableAnswer};
 ghost use Rattle.el_methods.specs.Replied.{replied, reads_chain, reads_files, may_read_files, MayRefuse, GivesOwn, agreed};
-ghost use Rattle.el_sessions.specs.Sessions.{Edits};
+ghost use Rattle.el_calls.specs.Versions.{text_of};
+ghost use Rattle.el_sessions.specs.Watching.{Follows};
 ghost use Rattle.el_methods.specs.declared.stop.Stop.TheVariants as stop;
 ghost use Rattle.serde_json.specs.Data.{array, item, no_items, string};
 
@@ -26,24 +27,24 @@ use crate::statuses::script_hash_subscribe;
 use crate::stop::Stop;
 use crate::transactions::transaction_get;
 use el_base::OutOfMemory;
-use el_calls::{Call, Refusal, VersionParts, is_shared};
+use el_calls::{Call, Refusal, VersionParts, greatest_shared, text_of};
 use el_json::{Answer, Answers};
 use el_model::Ledger;
 use el_outside::Archive;
-use el_sessions::{Session, Version};
+use el_sessions::{Session, Version, Watched};
 use el_side::{Caches, Holdings};
 use std::alloc::Global;
 
 const BANNER: &str = "Electrum Protocol 1.4 server over block files";
 
 // The answer to a version that is shared.
-fn version_answer(alloc: Global) -> Result<Answer, OutOfMemory>
+fn version_answer(alloc: Global, version: Version) -> Result<Answer, OutOfMemory>
     ensures { IfOk result (λ a. a ≡ array (item (string (codes "el_serve 1.0"))
-        (item (string (codes "1.4")) no_items))) }
+        (item (string (text_of version)) no_items))) }
 {
     let mut parts = Answers::new(alloc);
     parts.push(Answer::from_str(alloc, "el_serve 1.0")?)?;
-    parts.push(Answer::from_str(alloc, "1.4")?)?;
+    parts.push(Answer::from_str(alloc, text_of(version))?)?;
     Ok(parts.into_answer())
 }
 
@@ -63,11 +64,11 @@ fn agree(
     if session.version.is_some() {
         return Err(Stop::Refused(Refusal::VersionAgreed));
     }
-    if !is_shared(least, most) {
+    let Some(version) = greatest_shared(least, most) else {
         return Err(Stop::Refused(Refusal::VersionNotShared));
-    }
-    let answer = version_answer(alloc)?;
-    session.version = Some(Version::V14);
+    };
+    let answer = version_answer(alloc, version)?;
+    session.version = Some(version);
     Ok(answer)
 }
 
@@ -78,9 +79,9 @@ fn no_list(alloc: Global) -> Answer
     Answers::new(alloc).into_answer()
 }
 
-/// The answer to a call (Electrum Protocol 1.4), over the ledger's chain and the unconfirmed transactions
+/// The answer to a call (Electrum Protocol 1.4.2), over the ledger's chain and the unconfirmed transactions
 /// that are held.
-#[tactic(auto, using(el_sessions::proofs::Subscribing::edits_same))]
+#[tactic(auto, using(el_sessions::proofs::Counting::follows_same))]
 pub fn answer<G: Ledger, A: Archive>(
     alloc: Global,
     ledger: &mut G,
@@ -88,6 +89,7 @@ pub fn answer<G: Ledger, A: Archive>(
     holdings: &Holdings,
     caches: &mut Caches,
     session: &mut Session,
+    watched: &mut Watched,
     call: &Call,
 ) -> Result<Answer, Stop>
     requires live { G.is_live ledger.old }
@@ -119,8 +121,8 @@ pub fn answer<G: Ledger, A: Archive>(
 
     ensures still { (kept : List shape.Tx) → reads_files kept call.now ≡ true → session.new ≡ session.old }
     ensures unanswered { OnErr result (session.new ≡ session.old) }
-    // No subscription is dropped, and new ones come last, whatever the ledger stands for.
-    ensures edits { Edits session.old.subs session.new.subs }
+    // What is counted of all clients follows its subscriptions, whatever the ledger stands for.
+    ensures watched { Follows session.old.subs session.new.subs watched.old watched.new }
     // What was computed once is still of the chain.
     ensures caches { CachesStay ⟦<G as Ledger>⟧ ledger.old caches.old caches.new }
     ensures quiet { Asked ⟦<G as Ledger>⟧ ledger.old ledger.new }
@@ -158,7 +160,17 @@ pub fn answer<G: Ledger, A: Archive>(
         Call::GetMempool(s) => get_mempool(alloc, &holdings.pool, s),
         Call::ListUnspent(s) => list_unspent(alloc, ledger, &holdings.pool, s),
         Call::ScriptHashSubscribe(s) => {
-            script_hash_subscribe(alloc, ledger, &holdings.pool, &mut session.subs, *s)
+            script_hash_subscribe(
+                alloc,
+                ledger,
+                &holdings.pool,
+                &mut session.subs,
+                watched,
+                *s,
+            )
+        }
+        Call::ScriptHashUnsubscribe(s) => {
+            Ok(Answer::flag(watched.unsubscribe(&mut session.subs, s)))
         }
         Call::Broadcast(_) => Err(Stop::Refused(Refusal::NoRelay)),
         Call::TransactionGet { tx_hash, verbose } => {

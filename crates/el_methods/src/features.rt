@@ -1,23 +1,32 @@
 // What the server offers.
 ghost use Rattle.std.specs.Prelude.{◌≡◌, IfOk, OnOk, codes};
 ghost use Rattle.serde_json.specs.Data.{string, put};
+ghost use Rattle.el_calls.specs.Versions.{text_of, protocol_max, protocol_min};
 ghost use Rattle.el_methods.specs.Results as defined;
 ghost use Rattle.el_methods.specs.Outcomes.{IsAnswer, IsDiskCounted, IsPrintableAnswer};
 
 use crate::stop::Stop;
 use crate::texts::shown_of;
 use el_base::{Hash32, OutOfMemory};
-use el_calls::Refusal;
+use el_calls::{PROTOCOL_MAX, PROTOCOL_MIN, Refusal, text_of};
 use el_headers::HeaderTree;
 use el_json::{Answer, Members};
 use std::alloc::Global;
 
 fn add_protocol(alloc: Global, members: &mut Members) -> Result<(), OutOfMemory>
-    ensures { OnOk result (members.new ≡ put (codes "protocol_min") (string (codes "1.4"))
-        (put (codes "protocol_max") (string (codes "1.4")) members.old)) }
+    ensures { OnOk result (members.new ≡ put (codes "protocol_min") (string (text_of protocol_min))
+        (put (codes "protocol_max") (string (text_of protocol_max)) members.old)) }
 {
-    members.put(alloc, "protocol_max", Answer::from_str(alloc, "1.4")?)?;
-    members.put(alloc, "protocol_min", Answer::from_str(alloc, "1.4")?)?;
+    members.put(
+        alloc,
+        "protocol_max",
+        Answer::from_str(alloc, text_of(PROTOCOL_MAX))?,
+    )?;
+    members.put(
+        alloc,
+        "protocol_min",
+        Answer::from_str(alloc, text_of(PROTOCOL_MIN))?,
+    )?;
     Ok(())
 }
 
@@ -39,7 +48,7 @@ fn features_value(alloc: Global, genesis: &Hash32) -> Result<Answer, OutOfMemory
     Ok(members.into_answer())
 }
 
-/// The answer to `server.features` (Electrum Protocol 1.4), for the network whose genesis was found.
+/// The answer to `server.features` (Electrum Protocol 1.4.2), for the network whose genesis was found.
 pub fn features(alloc: Global, tree: &HeaderTree) -> Result<Answer, Stop>
     ensures answer { IsAnswer (defined.features tree.now) result }
     ensures printable { IsPrintableAnswer result }

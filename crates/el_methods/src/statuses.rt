@@ -10,7 +10,7 @@ ghost use Rattle.el_methods.specs.Results.{told, is_one_too_many};
 ghost use Rattle.el_view.specs.Rows.{history_rows};
 ghost use Rattle.el_methods.specs.Outcomes.{IsReplyWith, IsDiskCounted, RefusesOnly, IsPrintableAnswer};
 ghost use Rattle.el_calls.specs.declared.refusal.Refusal.TheVariants as refusal;
-ghost use Rattle.el_sessions.specs.Sessions.{Edits};
+ghost use Rattle.el_sessions.specs.Watching.{Follows};
 
 use crate::stop::Stop;
 use crate::texts::hex_of;
@@ -19,7 +19,7 @@ use el_calls::Refusal;
 use el_json::Answer;
 use el_model::Ledger;
 use el_pool::Pool;
-use el_sessions::{SUBSCRIPTION_LIMIT, Subs};
+use el_sessions::{SUBSCRIPTION_LIMIT, Subs, Watched};
 use el_view::view_status;
 use std::alloc::Global;
 
@@ -37,12 +37,13 @@ pub fn told_of(alloc: Global, status: Option<Hash32>) -> Result<Answer, OutOfMem
 
 /// The answer to `blockchain.scripthash.subscribe` (Electrum Protocol 1.4): the status of the script hash.
 /// The client is then subscribed to it, and was told that status.
-#[tactic(auto, using(el_sessions::proofs::Subscribing::edits_same))]
+#[tactic(auto, using(el_sessions::proofs::Counting::follows_same))]
 pub fn script_hash_subscribe<G: Ledger>(
     alloc: Global,
     ledger: &mut G,
     pool: &Pool,
     subs: &mut Subs,
+    watched: &mut Watched,
     s: Hash32,
 ) -> Result<Answer, Stop>
     requires live { G.is_live ledger.old }
@@ -52,7 +53,7 @@ pub fn script_hash_subscribe<G: Ledger>(
         → IsReplyWith (defined.script_hash_subscribe chain kept subs.old s) subs.old subs.new result }
     ensures printable { IsPrintableAnswer result }
 
-    ensures edits { Edits subs.old subs.new }
+    ensures watched { Follows subs.old subs.new watched.old watched.new }
     ensures unanswered { OnErr result (subs.new ≡ subs.old) }
     ensures quiet { Asked ⟦<G as Ledger>⟧ ledger.old ledger.new }
 
@@ -73,7 +74,7 @@ pub fn script_hash_subscribe<G: Ledger>(
         Ok(answer) => answer,
         Err(_) => return Err(Stop::Memory),
     };
-    match subs.subscribe(s, status) {
+    match watched.subscribe(subs, s, status) {
         Ok(()) => Ok(answer),
         Err(_) => Err(Stop::Memory),
     }

@@ -15,7 +15,7 @@ ghost use Rattle.el_replies.specs.within.Errors.{error_text};
 ghost use Rattle.el_replies.specs.within.Gathered.{replies_of, HasEnd, HasSpace};
 ghost use Rattle.el_json.specs.Lines.{HasPrintableId, IsPrintable, IsPrintableId};
 ghost use Rattle.el_methods.specs.Outcomes.{IsPrintableAnswer};
-ghost use Rattle.el_sessions.specs.Sessions.{Edits};
+ghost use Rattle.el_sessions.specs.Watching.{Follows};
 ghost use Rattle.el_chain.specs.Chains.{Chain};
 ghost use Rattle.el_replies.specs.RowBounds.{RequestReads, ItemReads, ItemsRead, ReadsWithin};
 
@@ -29,7 +29,7 @@ use el_json::{Answer, Elements, Item, Request};
 use el_model::Ledger;
 use el_outside::{Archive, Relay};
 use el_relay::Desk;
-use el_sessions::Session;
+use el_sessions::{Session, Watched};
 use el_side::{Caches, Holdings};
 use std::alloc::Global;
 
@@ -178,7 +178,7 @@ fn refuse(
 }
 
 // Answers a request before the limit was passed. The room for an error is taken before it is asked.
-#[tactic(auto, using(el_sessions::proofs::Subscribing::edits_same))]
+#[tactic(auto, using(el_sessions::proofs::Counting::follows_same))]
 fn answer_in_time<G: Ledger, A: Archive, Y: Relay>(
     alloc: Global,
     ledger: &mut G,
@@ -186,6 +186,7 @@ fn answer_in_time<G: Ledger, A: Archive, Y: Relay>(
     holdings: &Holdings,
     caches: &mut Caches,
     session: &mut Session,
+    watched: &mut Watched,
     desk: &mut Desk,
     relay: &mut Y,
     replies: &mut Gathered,
@@ -203,7 +204,7 @@ fn answer_in_time<G: Ledger, A: Archive, Y: Relay>(
         request before session.old (replies_of replies.old) after session.new (replies_of replies.new))
         (λ _. CutAnswer (AnswersOf A.tells side) request before session.old after)) }
     ensures end { OnOk result (HasEnd replies.new) }
-    ensures edits { Edits session.old.subs session.new.subs }
+    ensures watched { Follows session.old.subs session.new.subs watched.old watched.new }
     ensures rows { (chain : Chain) → G.stands ledger.old chain → CachesStand caches.old chain chain
         → ReadsWithin (RequestReads chain (G.buckets ledger.old) request)
         (G.reads ledger.old) (G.reads ledger.new) }
@@ -216,13 +217,13 @@ fn answer_in_time<G: Ledger, A: Archive, Y: Relay>(
 {
     let room = make_room(alloc, replies, &request.id)?;
     let told = answer_request(
-        alloc, ledger, archive, holdings, caches, session, desk, relay, &request,
+        alloc, ledger, archive, holdings, caches, session, watched, desk, relay, &request,
     )?;
     add_reply(alloc, replies, room, request.id, told)
 }
 
 // Answers an element of a batch.
-#[tactic(auto, using(el_sessions::proofs::Subscribing::edits_same))]
+#[tactic(auto, using(el_sessions::proofs::Counting::follows_same))]
 fn answer_item<G: Ledger, A: Archive, Y: Relay>(
     alloc: Global,
     ledger: &mut G,
@@ -230,6 +231,7 @@ fn answer_item<G: Ledger, A: Archive, Y: Relay>(
     holdings: &Holdings,
     caches: &mut Caches,
     session: &mut Session,
+    watched: &mut Watched,
     desk: &mut Desk,
     relay: &mut Y,
     replies: &mut Gathered,
@@ -247,7 +249,7 @@ fn answer_item<G: Ledger, A: Archive, Y: Relay>(
         item before session.old (replies_of replies.old) after session.new (replies_of replies.new))
         (λ _. CutStep (AnswersOf A.tells side) item before session.old (replies_of replies.old) after)) }
     ensures end { OnOk result (HasEnd replies.new) }
-    ensures edits { Edits session.old.subs session.new.subs }
+    ensures watched { Follows session.old.subs session.new.subs watched.old watched.new }
     ensures rows { (chain : Chain) → G.stands ledger.old chain → CachesStand caches.old chain chain
         → ReadsWithin (ItemReads chain (G.buckets ledger.old) item)
         (G.reads ledger.old) (G.reads ledger.new) }
@@ -264,8 +266,8 @@ fn answer_item<G: Ledger, A: Archive, Y: Relay>(
                 refuse(alloc, replies, request.id, Refusal::BatchTooLarge)
             } else {
                 answer_in_time(
-                    alloc, ledger, archive, holdings, caches, session, desk, relay, replies,
-                    request,
+                    alloc, ledger, archive, holdings, caches, session, watched, desk, relay,
+                    replies, request,
                 )
             }
         }
@@ -283,6 +285,7 @@ pub(crate) fn answer_items<G: Ledger, A: Archive, Y: Relay>(
     holdings: &Holdings,
     caches: &mut Caches,
     session: &mut Session,
+    watched: &mut Watched,
     desk: &mut Desk,
     relay: &mut Y,
     replies: &mut Gathered,
@@ -300,7 +303,7 @@ pub(crate) fn answer_items<G: Ledger, A: Archive, Y: Relay>(
         (λ _. CutSteps (AnswersOf A.tells side)
         elements.old before session.old (replies_of replies.old) after)) }
     ensures end { OnOk result (HasEnd replies.new) }
-    ensures edits { Edits session.old.subs session.new.subs }
+    ensures watched { Follows session.old.subs session.new.subs watched.old watched.new }
     ensures rows { (chain : Chain) → G.stands ledger.old chain → CachesStand caches.old chain chain
         → ReadsWithin (ItemsRead chain (G.buckets ledger.old) elements.old)
         (G.reads ledger.old) (G.reads ledger.new) }
@@ -313,7 +316,7 @@ pub(crate) fn answer_items<G: Ledger, A: Archive, Y: Relay>(
 {
     while let Some(item) = elements.next(alloc) {
         answer_item(
-            alloc, ledger, archive, holdings, caches, session, desk, relay, replies, item,
+            alloc, ledger, archive, holdings, caches, session, watched, desk, relay, replies, item,
         )?;
     }
     Ok(())

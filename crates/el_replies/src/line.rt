@@ -15,7 +15,7 @@ ghost use Rattle.el_replies.specs.LineReplies.{message, message_to, reply_to, sa
 ghost use Rattle.el_replies.specs.within.Errors.{error_text};
 ghost use Rattle.el_replies.specs.within.Gathered.{replies_of, HasEnd};
 ghost use Rattle.el_methods.specs.Outcomes.{IsPrintableAnswer};
-ghost use Rattle.el_sessions.specs.Sessions.{Edits};
+ghost use Rattle.el_sessions.specs.Watching.{Follows};
 ghost use Rattle.el_chain.specs.Chains.{Chain};
 ghost use Rattle.el_replies.specs.RowBounds.{RequestReads, ItemsRead, LineReads, ReadsWithin};
 
@@ -29,7 +29,7 @@ use el_json::{Answer, Elements, Envelope, LineFault, Request, read_line};
 use el_model::Ledger;
 use el_outside::{Archive, Relay};
 use el_relay::Desk;
-use el_sessions::Session;
+use el_sessions::{Session, Watched};
 use el_side::{Caches, Holdings};
 use std::alloc::Global;
 
@@ -127,7 +127,7 @@ fn reply_to_id(
 }
 
 // The message to one request. The room for an error is taken before it is asked.
-#[tactic(auto, using(el_sessions::proofs::Subscribing::edits_same))]
+#[tactic(auto, using(el_sessions::proofs::Counting::follows_same))]
 fn one_reply<G: Ledger, A: Archive, Y: Relay>(
     alloc: Global,
     ledger: &mut G,
@@ -135,6 +135,7 @@ fn one_reply<G: Ledger, A: Archive, Y: Relay>(
     holdings: &Holdings,
     caches: &mut Caches,
     session: &mut Session,
+    watched: &mut Watched,
     desk: &mut Desk,
     relay: &mut Y,
     request: Request,
@@ -149,7 +150,7 @@ fn one_reply<G: Ledger, A: Archive, Y: Relay>(
         (λ reply. IsReplyTo (AnswersOf A.tells side)
         (Ok (Envelope.One request)) before session.old after session.new reply)
         (λ _. CutAnswer (AnswersOf A.tells side) request before session.old after)) }
-    ensures edits { Edits session.old.subs session.new.subs }
+    ensures watched { Follows session.old.subs session.new.subs watched.old watched.new }
     ensures rows { (chain : Chain) → G.stands ledger.old chain → CachesStand caches.old chain chain
         → ReadsWithin (RequestReads chain (G.buckets ledger.old) request)
         (G.reads ledger.old) (G.reads ledger.new) }
@@ -162,7 +163,7 @@ fn one_reply<G: Ledger, A: Archive, Y: Relay>(
 {
     let room = room_for(alloc, &request.id)?;
     let told = answer_request(
-        alloc, ledger, archive, holdings, caches, session, desk, relay, &request,
+        alloc, ledger, archive, holdings, caches, session, watched, desk, relay, &request,
     )?;
     reply_to_id(alloc, room, request.id, told)
 }
@@ -188,6 +189,7 @@ fn batch_reply<G: Ledger, A: Archive, Y: Relay>(
     holdings: &Holdings,
     caches: &mut Caches,
     session: &mut Session,
+    watched: &mut Watched,
     desk: &mut Desk,
     relay: &mut Y,
     elements: Elements,
@@ -202,7 +204,7 @@ fn batch_reply<G: Ledger, A: Archive, Y: Relay>(
         (Ok (Envelope.Batch elements)) before session.old after session.new reply)
         (λ _. CutSteps (AnswersOf A.tells side)
         elements before session.old no_replies after)) }
-    ensures edits { Edits session.old.subs session.new.subs }
+    ensures watched { Follows session.old.subs session.new.subs watched.old watched.new }
     ensures rows { (chain : Chain) → G.stands ledger.old chain → CachesStand caches.old chain chain
         → ReadsWithin (ItemsRead chain (G.buckets ledger.old) elements)
         (G.reads ledger.old) (G.reads ledger.new) }
@@ -222,6 +224,7 @@ fn batch_reply<G: Ledger, A: Archive, Y: Relay>(
         holdings,
         caches,
         session,
+        watched,
         desk,
         relay,
         &mut replies,
@@ -248,7 +251,7 @@ fn fault_reply(alloc: Global, id: Answer, refusal: Refusal) -> Result<LineReply,
 /// What comes of a line of a client, which stands without the byte 10 that ended it. What is lost meanwhile
 /// is told to the client in the replies. Where memory runs out, nothing was lost, but at elements of a batch
 /// that were answered before; and the request that found none may have been broadcast.
-#[tactic(auto, using(el_sessions::proofs::Subscribing::edits_same))]
+#[tactic(auto, using(el_sessions::proofs::Counting::follows_same))]
 pub fn reply_line<G: Ledger, A: Archive, Y: Relay>(
     alloc: Global,
     ledger: &mut G,
@@ -256,6 +259,7 @@ pub fn reply_line<G: Ledger, A: Archive, Y: Relay>(
     holdings: &Holdings,
     caches: &mut Caches,
     session: &mut Session,
+    watched: &mut Watched,
     desk: &mut Desk,
     relay: &mut Y,
     line: &[u8],
@@ -269,8 +273,8 @@ pub fn reply_line<G: Ledger, A: Archive, Y: Relay>(
         (λ before after. IsLineReply
         (AnswersOf A.tells side)
         line.now before session.old after session.new result) }
-    // No subscription is dropped, and new ones come last, whatever the ledger stands for.
-    ensures edits { Edits session.old.subs session.new.subs }
+    // What is counted of all clients follows its subscriptions, whatever the ledger stands for.
+    ensures watched { Follows session.old.subs session.new.subs watched.old watched.new }
     // How many rows are read: at most those of the calls that its requests ask for, each once.
     ensures rows { (chain : Chain) → G.stands ledger.old chain → CachesStand caches.old chain chain
         → ReadsWithin (LineReads chain (G.buckets ledger.old) (line_says line.now))
@@ -284,11 +288,11 @@ pub fn reply_line<G: Ledger, A: Archive, Y: Relay>(
 {
     match read_line(alloc, line) {
         Ok(Envelope::One(request)) => one_reply(
-            alloc, ledger, archive, holdings, caches, session, desk, relay, request,
+            alloc, ledger, archive, holdings, caches, session, watched, desk, relay, request,
         ),
         Ok(Envelope::Batch(elements)) => {
             batch_reply(
-                alloc, ledger, archive, holdings, caches, session, desk, relay, elements,
+                alloc, ledger, archive, holdings, caches, session, watched, desk, relay, elements,
             )
         }
         Err(LineFault::Parse) => fault_reply(alloc, Answer::null(), Refusal::Parse),

@@ -14,7 +14,7 @@ ghost use Rattle.el_replies.specs.Requested.{IsAnswered, told_of};
 ghost use Rattle.el_replies.specs.Spending.{Loses, asked_ghosts, asking};
 ghost use Rattle.el_methods.specs.RowBounds.{rows_of};
 ghost use Rattle.el_methods.specs.Outcomes.{IsPrintableAnswer};
-ghost use Rattle.el_sessions.specs.Sessions.{Edits};
+ghost use Rattle.el_sessions.specs.Watching.{Follows};
 ghost use Rattle.el_chain.specs.Chains.{Chain};
 ghost use Rattle.el_replies.specs.RowBounds.{RequestReads, ReadsWithin};
 
@@ -26,7 +26,7 @@ use el_methods::{Stop, answer};
 use el_model::Ledger;
 use el_outside::{Archive, Relay};
 use el_relay::Desk;
-use el_sessions::Session;
+use el_sessions::{Session, Watched};
 use el_side::{Caches, Holdings};
 use std::alloc::Global;
 
@@ -45,7 +45,7 @@ fn told_of(given: Result<Answer, Stop>) -> Option<Result<Answer, Refusal>>
 }
 
 // The answer to a call that is no broadcast: what is defined, or that a device failed.
-#[tactic(auto, using(el_sessions::proofs::Subscribing::edits_same))]
+#[tactic(auto, using(el_sessions::proofs::Counting::follows_same))]
 fn answer_call<G: Ledger, A: Archive>(
     alloc: Global,
     ledger: &mut G,
@@ -53,6 +53,7 @@ fn answer_call<G: Ledger, A: Archive>(
     holdings: &Holdings,
     caches: &mut Caches,
     session: &mut Session,
+    watched: &mut Watched,
     call: &Call,
 ) -> Result<Result<Answer, Refusal>, OutOfMemory>
     requires live { G.is_live ledger.old }
@@ -61,7 +62,7 @@ fn answer_call<G: Ledger, A: Archive>(
         → IsAnswered A.tells side call.now session.old session.new
         (λ n. RoseBy (G.faults ledger.old) (G.faults ledger.new) n)
         (λ n. RoseBy (A.faults archive.old) (A.faults archive.new) n) result }
-    ensures edits { Edits session.old.subs session.new.subs }
+    ensures watched { Follows session.old.subs session.new.subs watched.old watched.new }
     ensures printable { IfOk result IsPrintableAnswer }
     ensures rows { (chain : Chain) → G.stands ledger.old chain → CachesStand caches.old chain chain
         → G.reads ledger.new ≤ G.reads ledger.old + rows_of chain (G.buckets ledger.old) call.now }
@@ -71,7 +72,9 @@ fn answer_call<G: Ledger, A: Archive>(
     ensures quiet { Asked ⟦<G as Ledger>⟧ ledger.old ledger.new }
     ensures grows { A.tells → AllGrow (A.bytes archive.old) (A.bytes archive.new) }
 {
-    let given = answer(alloc, ledger, archive, holdings, caches, session, call);
+    let given = answer(
+        alloc, ledger, archive, holdings, caches, session, watched, call,
+    );
     match told_of(given) {
         Some(told) => Ok(told),
         None => Err(OutOfMemory),
@@ -79,7 +82,7 @@ fn answer_call<G: Ledger, A: Archive>(
 }
 
 // The answer to a request that asks for the call. A broadcast goes to the desk.
-#[tactic(auto, using(el_sessions::proofs::Subscribing::edits_same))]
+#[tactic(auto, using(el_sessions::proofs::Counting::follows_same))]
 fn answer_called<G: Ledger, A: Archive, Y: Relay>(
     alloc: Global,
     ledger: &mut G,
@@ -87,6 +90,7 @@ fn answer_called<G: Ledger, A: Archive, Y: Relay>(
     holdings: &Holdings,
     caches: &mut Caches,
     session: &mut Session,
+    watched: &mut Watched,
     desk: &mut Desk,
     relay: &mut Y,
     request: &Request,
@@ -101,7 +105,7 @@ fn answer_called<G: Ledger, A: Archive, Y: Relay>(
         (λ before after. MatchResult result
         (λ told. AnswersOf A.tells side before request.now session.old told after session.new)
         (λ _. CutAnswer (AnswersOf A.tells side) request.now before session.old after)) }
-    ensures edits { Edits session.old.subs session.new.subs }
+    ensures watched { Follows session.old.subs session.new.subs watched.old watched.new }
     ensures printable { IfOk result IsPrintableAnswer }
     ensures rows { (chain : Chain) → G.stands ledger.old chain → CachesStand caches.old chain chain
         → ReadsWithin (RequestReads chain (G.buckets ledger.old) request.now)
@@ -115,12 +119,14 @@ fn answer_called<G: Ledger, A: Archive, Y: Relay>(
 {
     match call.raw_tx() {
         Some(bytes) => broadcast(alloc, desk, relay, bytes),
-        None => answer_call(alloc, ledger, archive, holdings, caches, session, call),
+        None => answer_call(
+            alloc, ledger, archive, holdings, caches, session, watched, call,
+        ),
     }
 }
 
 /// The answer to a request: what is defined, or that a device failed. A broadcast goes to the desk.
-#[tactic(auto, using(el_sessions::proofs::Subscribing::edits_same))]
+#[tactic(auto, using(el_sessions::proofs::Counting::follows_same))]
 pub fn answer_request<G: Ledger, A: Archive, Y: Relay>(
     alloc: Global,
     ledger: &mut G,
@@ -128,6 +134,7 @@ pub fn answer_request<G: Ledger, A: Archive, Y: Relay>(
     holdings: &Holdings,
     caches: &mut Caches,
     session: &mut Session,
+    watched: &mut Watched,
     desk: &mut Desk,
     relay: &mut Y,
     request: &Request,
@@ -140,7 +147,7 @@ pub fn answer_request<G: Ledger, A: Archive, Y: Relay>(
         (λ before after. MatchResult result
         (λ told. AnswersOf A.tells side before request.now session.old told after session.new)
         (λ _. CutAnswer (AnswersOf A.tells side) request.now before session.old after)) }
-    ensures edits { Edits session.old.subs session.new.subs }
+    ensures watched { Follows session.old.subs session.new.subs watched.old watched.new }
     ensures printable { IfOk result IsPrintableAnswer }
     ensures rows { (chain : Chain) → G.stands ledger.old chain → CachesStand caches.old chain chain
         → ReadsWithin (RequestReads chain (G.buckets ledger.old) request.now)
@@ -155,7 +162,7 @@ pub fn answer_request<G: Ledger, A: Archive, Y: Relay>(
     let called = call_of(alloc, request.method.as_str(), &request.params)?;
     match called {
         Ok(call) => answer_called(
-            alloc, ledger, archive, holdings, caches, session, desk, relay, request, &call,
+            alloc, ledger, archive, holdings, caches, session, watched, desk, relay, request, &call,
         ),
         Err(refusal) => Ok(Err(refusal)),
     }

@@ -13,9 +13,9 @@ const BEFORE: (&str, &str) = (
      {\"id\":1,\"method\":\"server.features\"}\n\
      {\"id\":2,\"method\":\"blockchain.headers.subscribe\"}\n\
      {\"id\":3,\"method\":\"blockchain.block.headers\",\"params\":[0,2016]}\n",
-    "{\"id\":0,\"jsonrpc\":\"2.0\",\"result\":[\"el_serve 1.0\",\"1.4\"]}\n\
+    "{\"id\":0,\"jsonrpc\":\"2.0\",\"result\":[\"el_serve 1.0\",\"1.4.2\"]}\n\
      {\"id\":1,\"jsonrpc\":\"2.0\",\"result\":{\"genesis_hash\":\"G\",\"hash_function\":\"sha256\",\
-     \"hosts\":{},\"protocol_max\":\"1.4\",\"protocol_min\":\"1.4\",\"pruning\":null,\
+     \"hosts\":{},\"protocol_max\":\"1.4.2\",\"protocol_min\":\"1.4\",\"pruning\":null,\
      \"server_version\":\"el_serve 1.0\"}}\n\
      {\"id\":2,\"jsonrpc\":\"2.0\",\"result\":{\"height\":1,\"hex\":\"J\"}}\n\
      {\"id\":3,\"jsonrpc\":\"2.0\",\"result\":{\"count\":2,\"hex\":\"HJ\",\"max\":2016}}\n",

@@ -1,1 +1,4 @@
-pub mod Subscribing
+pub mod Scripts
+pub mod Numbered
+pub mod Ordered
+pub mod Counting

@@ -1,5 +1,5 @@
--- What the server keeps of a client for its requests (Electrum Protocol 1.4).
-use Rattle.std.specs.Prelude.{◌≡◌, ◌≢◌, Bool, not, if◌then◌else◌, List, [], ◌∷◌, ◌++◌, filter, Option}
+-- What the server keeps of a client for its requests (Electrum Protocol 1.4.2).
+use Rattle.std.specs.Prelude.{Bool, if◌then◌else◌, List, [], ◌∷◌, filter, Option}
 use Rattle.std.specs.List.{list_any}
 use Rattle.std.specs.Map.{keys_of}
 use Rattle.std.specs.Str.{bytes_eq}
@@ -9,9 +9,13 @@ use Rattle.el_base.specs.declared.hash.Hash32.{Hash32}
 abbrev pub Subscription : Type 0
 Subscription = Hash32 × Option Hash32
 
+-- two script hashes are one
+abbrev pub same_script : Hash32 → Hash32 → Bool
+same_script a b = bytes_eq a.0 b.0
+
 -- the subscription is to that script hash
 abbrev pub is_to : Hash32 → Subscription → Bool
-is_to s sub = bytes_eq s.0 sub.0.0
+is_to s sub = same_script s sub.0
 
 -- one of the subscriptions is to that script hash
 abbrev pub is_subscribed : Hash32 → List Subscription → Bool
@@ -23,18 +27,11 @@ abbrev pub subscribed : Hash32 → Option Hash32 → List Subscription → List 
 subscribed s told [] = (s, told) ∷ []
 subscribed s told (sub ∷ subs) = if is_to s sub then (sub.0, told) ∷ subs else sub ∷ subscribed s told subs
 
--- it is none of these
-abbrev pub not_among : List Hash32 → Hash32 → Bool
-not_among hashes s = not (list_any (λ (other : Hash32). bytes_eq s.0 other.0) hashes)
+-- the subscriptions without the one to that script hash; the others stay in their order
+abbrev pub unsubscribed : Hash32 → List Subscription → List Subscription
+unsubscribed s [] = []
+unsubscribed s (sub ∷ subs) = if is_to s sub then subs else sub ∷ unsubscribed s subs
 
--- The script hashes are those that there were, in their order, without those that were dropped, and then
--- others. Electrum Protocol 1.4 has no call that drops one.
-pub record Edits (was now : List Subscription) : Type 0 where
-  pub dropped : List Hash32
-  pub added : List Hash32
-  pub keys : keys_of now ≡ filter (not_among dropped) (keys_of was) ++ added
-  pub none_dropped : dropped ≡ []
-
--- the client has subscribed to a script hash more
-abbrev pub HasAdded : List Subscription → List Subscription → Type 0
-HasAdded was now = (edits : Edits was now) × (edits.added ≢ [])
+-- those of the script hashes to which there is a subscription, in the order of the subscriptions
+abbrev pub held_among : List Hash32 → List Subscription → List Hash32
+held_among scripts subs = filter (λ (s : Hash32). list_any (same_script s) scripts) (keys_of subs)

@@ -1,9 +1,6 @@
 // What a client is told.
-ghost use Rattle.std.specs.Prelude.{◌≡◌, ◌≤◌, ◌<◌, ◌+◌, ℕ, nat_eq, List, [], ◌∷◌, ◌++◌, length, slice_get, Some, IfOk, OnOk};
-ghost use Rattle.std.specs.List.{list_any};
-ghost use Rattle.std.specs.List.Sorted.{IsStrictlyIncreasing};
+ghost use Rattle.std.specs.Prelude.{◌≡◌, ◌≤◌, ◌+◌, List, ◌++◌, IfOk, OnOk};
 ghost use Rattle.std.specs.Map.{keys_of};
-ghost use Rattle.indexmap.specs.Layout.{set_value_at};
 ghost use Rattle.el_base.specs.declared.hash.Hash32 as hash_shape;
 ghost use Rattle.el_outside.specs.Counts.{CountsOnly};
 ghost use Rattle.el_tx.specs.declared.types.Tx as shape;
@@ -11,11 +8,10 @@ ghost use Rattle.el_chain.specs.Chains.{Chain};
 ghost use Rattle.el_model.specs.LedgerCalls.{Asked};
 ghost use Rattle.el_mempool.specs.Standing.{StandsFor};
 ghost use Rattle.el_view.specs.Rows.{history_rows};
-ghost use Rattle.el_sessions.specs.Sessions.{Subscription};
 ghost use Rattle.el_subs.specs.Told.{status, news, marked, OthersTold, cost_of};
-ghost use Rattle.el_subs.specs.within.Partly.{touched_at};
+ghost use Rattle.el_subs.specs.within.Partly.{one_to, noted};
 
-use el_base::{Hash32, OutOfMemory};
+use el_base::Hash32;
 use el_chain::Touched;
 use el_model::{Ledger, QueryFault};
 use el_pool::Pool;
@@ -23,54 +19,33 @@ use el_sessions::Subs;
 use el_view::view_status;
 use std::alloc::Global;
 
-// The numbers of the subscriptions whose script hashes are touched, rising. Takes no memory where there are
-// none.
-fn touched_numbers(alloc: Global, subs: &Subs, touched: &Touched) -> Result<Vec<usize>, OutOfMemory>
-    ensures rising { IfOk result (λ numbers. IsStrictlyIncreasing numbers.items) }
-    ensures exact { IfOk result (λ numbers. (number : ℕ) → list_any (nat_eq number) numbers.items
-        ≡ touched_at touched.now subs.now number) }
-{
-    let mut numbers = Vec::new(alloc);
-    for s in touched.list() {
-        if let Some(number) = subs.number_of(s) {
-            numbers.push(number)?;
-        }
-    }
-    numbers.sort_unstable();
-    Ok(numbers)
-}
-
-// Tells the subscription of that number, where its status isn't the one told last.
-#[tactic(auto, using(crate::proofs::News::keys_noted))]
+// Tells the subscription to that script hash, if there is one and its status isn't the one told last.
 fn tell_one<G: Ledger>(
     alloc: Global,
     subs: &mut Subs,
-    number: usize,
+    s: &Hash32,
     ledger: &mut G,
     pool: &Pool,
     found: &mut Vec<(Hash32, Option<Hash32>)>,
 ) -> Result<(), QueryFault>
-    requires inside { number < length subs.old }
     requires live { G.is_live ledger.old }
     ensures told { (chain : Chain) (kept : List shape.Tx) → G.stands ledger.old chain
         → StandsFor pool.now.entries chain kept
-        → (sub : Subscription) → slice_get subs.old number ≡ Some sub
-        → OnOk result ((found.new.items ≡ found.old.items ++ news (status chain kept) (sub ∷ []))
-        × (subs.new ≡ set_value_at subs.old number (status chain kept sub.0))) }
+        → OnOk result ((found.new.items ≡ found.old.items ++ news (status chain kept) (one_to s.now subs.old))
+        × (subs.new ≡ noted (status chain kept) s.now subs.old)) }
     ensures rows { (chain : Chain) → G.stands ledger.old chain
-        → (s : hash_shape.Hash32) → slice_get (keys_of subs.old) number ≡ Some s
-        → G.reads ledger.new ≤ G.reads ledger.old + history_rows chain (G.buckets ledger.old) s.0 }
+        → G.reads ledger.new ≤ G.reads ledger.old + history_rows chain (G.buckets ledger.old) s.now.0 }
     ensures keys { keys_of subs.new ≡ keys_of subs.old }
     ensures quiet { Asked ⟦<G as Ledger>⟧ ledger.old ledger.new }
     ensures cause { CountsOnly (G.faults ledger.old) (G.faults ledger.new) QueryFault.DiskFailed result }
 {
-    let Some((s, told)) = subs.at(number) else {
+    let Some(told) = subs.told(s) else {
         return Ok(());
     };
-    let now = view_status(alloc, ledger, pool, &s)?;
+    let now = view_status(alloc, ledger, pool, s)?;
     if now != told {
-        found.push((s, now))?;
-        subs.note(number, now);
+        found.push((*s, now))?;
+        subs.note(s, now);
     }
     Ok(())
 }
@@ -106,10 +81,10 @@ pub fn tell<G: Ledger>(
     ensures quiet { Asked ⟦<G as Ledger>⟧ ledger.old ledger.new }
     ensures cause { CountsOnly (G.faults ledger.old) (G.faults ledger.new) QueryFault.DiskFailed result }
 {
-    let numbers = touched_numbers(alloc, subs, touched)?;
+    let held = subs.held_among(alloc, touched.list())?;
     let mut found = Vec::new(alloc);
-    for number in numbers.iter() {
-        tell_one(alloc, subs, *number, ledger, pool, &mut found)?;
+    for s in held.iter() {
+        tell_one(alloc, subs, s, ledger, pool, &mut found)?;
     }
     Ok(found)
 }

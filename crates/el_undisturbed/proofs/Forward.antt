@@ -103,7 +103,6 @@ module _ {A : Type 0} (of_files : block_files.Ghosts A) (told : of_files.tells) 
   answered : (p : ℕ) (bytes : List ℕ) (session : Session) → IsAnswered of_files.tells world p bytes session outs losses next → Forward world.side next.side
   answered p bytes session (world_of.replied reply kept desk comes o n) = left n (replied_side p reply session kept (record world { desk = desk }))
   answered p bytes session (world_of.starved e kept desk comes o n) = left n refl
-  answered p bytes session (world_of.uncounted reply kept desk comes more o n) = left n refl
 
   replied : (p : ℕ) (bytes : List ℕ) (found : Option Session) → Replied of_files.tells world p bytes found outs losses next → Forward world.side next.side
   replied p bytes None r = left r.1 refl

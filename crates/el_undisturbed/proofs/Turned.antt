@@ -77,8 +77,6 @@ module _ {A : Type 0} (of_files : block_files.Ghosts A) (records : Records of_fi
       (all_to p (option_to_list reply.text) not_so) (version_due p reply.closes))
   answered p bytes session is (world_of.starved e kept desk comes o n) =
       rw (o, n) (by_clients world _ _ keeps refl (without_no_node p world keeps.none) tt tt)
-  answered p bytes session is (world_of.uncounted reply kept desk comes more o n) =
-      rw (o, n) (by_clients world _ _ keeps refl (without_no_node p world keeps.none) tt tt)
 
   replied : (p : ℕ) (bytes : List ℕ) (found : Option Session) → find (is_peer p) world.sessions ≡ found
       → Replied of_files.tells world p bytes found outs losses left → Turned outs left

@@ -17,7 +17,7 @@ use Rattle.el_json.specs.declared.request.Envelope.{Envelope}
 use Rattle.el_json.specs.declared.request.Envelope.TheVariants.{One, Batch}
 use Rattle.el_json.specs.declared.request.LineFault.{LineFault}
 use Rattle.el_json.specs.declared.request.LineFault.TheVariants as fault
-use Rattle.el_calls.specs.Versions.{is_shared}
+use Rattle.el_calls.specs.Versions.{greatest_shared}
 use Rattle.el_calls.specs.declared.call.Call.{Call}
 use Rattle.el_calls.specs.declared.call.Call.TheVariants as call
 use Rattle.el_calls.specs.declared.call.VersionParts.{VersionParts}
@@ -25,9 +25,9 @@ use Rattle.el_calls.specs.declared.refusal.Refusal.{Refusal}
 use Rattle.el_calls.specs.declared.refusal.Refusal.TheVariants as refusal
 use Rattle.el_methods.specs.Outcomes.{IsReplyWith}
 use Rattle.el_methods.specs.Replied.{replied, reads_files, IsGiven, with_session, with_headers}
-use Rattle.el_methods.specs.Replied.{with_subscriptions, agreed}
+use Rattle.el_methods.specs.Replied.{with_subscriptions, agreed, agreed_on}
 use Rattle.el_methods.specs.Results as result
-use Rattle.el_sessions.specs.Sessions.{Subscription, is_to, subscribed}
+use Rattle.el_sessions.specs.Sessions.{Subscription, is_to, subscribed, unsubscribed}
 use Rattle.el_sessions.specs.declared.session.Session.{Session}
 use Rattle.el_sessions.specs.declared.session.Version.{Version}
 use Rattle.el_methods.specs.declared.stop.Stop.{Stop}
@@ -107,6 +107,17 @@ subscribed_told status s (sub ∷ subs) all = by (is_to s sub) refl (subscribed_
     by true e rest = rw e (ap status (the_hash s sub.0 ((bytes_eq-Decides s.0 sub.0.0).0 e)), all.1)
     by false e rest = rw e (all.0, rest)
 
+-- one that is dropped leaves the others
+unsubscribed_told : (status : Hash32 → Option Hash32) (s : Hash32) (subs : List Subscription)
+    → AllTold status subs → AllTold status (unsubscribed s subs)
+unsubscribed_told status s [] all = tt
+unsubscribed_told status s (sub ∷ subs) all = by (is_to s sub) refl (unsubscribed_told status s subs all.1)
+  where
+    by : (there : Bool) → is_to s sub ≡ there → AllTold status (unsubscribed s subs)
+        → AllTold status (unsubscribed s (sub ∷ subs))
+    by true e rest = rw e all.1
+    by false e rest = rw e (all.0, rest)
+
 module _ (chain : Chain) (kept : List Tx) where
   -- each subscription was told its status
   abbrev IsAllTold : Session → Type 0
@@ -125,11 +136,11 @@ module _ (chain : Chain) (kept : List Tx) where
   version_agreed : (s : Session) (before : Option Version) (least most : VersionParts) → IsAllTold s
       → IsAllTold (after s (agreed s before least most))
   version_agreed s (Some before) least most was = was
-  version_agreed s None least most was = by (is_shared least most) refl
+  version_agreed s None least most was = by (greatest_shared least most)
     where
-      by : (shared : Bool) → is_shared least most ≡ shared → IsAllTold (after s (agreed s None least most))
-      by true e = rw e was
-      by false e = rw e was
+      by : (shared : Option Version) → IsAllTold (after s (agreed_on s shared))
+      by (Some version) = was
+      by None = was
 
   one_more : (s : Session) (h : Hash32) → IsAllTold s
       → IsAllTold (after s (with_subscriptions s (result.script_hash_subscribe chain kept s.subs h)))
@@ -162,6 +173,7 @@ module _ (chain : Chain) (kept : List Tx) where
   call_keeps found (call.GetMempool h) s was = same_session s (result.get_mempool chain kept h.0) was
   call_keeps found (call.ListUnspent h) s was = same_session s (result.list_unspent chain kept h.0) was
   call_keeps found (call.ScriptHashSubscribe h) s was = one_more s h was
+  call_keeps found (call.ScriptHashUnsubscribe h) s was = unsubscribed_told (status chain kept) h s.subs was
   call_keeps found (call.Broadcast bytes) s was = was
   call_keeps found (call.TransactionGet id verbose) s was =
       same_session s (result.transaction_get chain kept id verbose) was

@@ -67,8 +67,6 @@ module _ {A : Type 0} (of_files : block_files.Ghosts A) (world : World) (sure : 
       (replied_side p reply session kept (record world { desk = desk })) (replied_no_node p reply session kept (record world { desk = desk }) client' all))
   answered p bytes session outs losses left is (world_of.starved e kept desk comes o n) =
       rw (o, n) (to_clients tt refl (without_no_node p world all))
-  answered p bytes session outs losses left is (world_of.uncounted reply kept desk comes more o n) =
-      rw (o, n) (to_clients tt refl (without_no_node p world all))
 
   replied : (p : ℕ) (bytes : List ℕ) (found : Option Session) (outs : Outs) (losses : List Deed)
       (left : World) → find (is_peer p) world.sessions ≡ found

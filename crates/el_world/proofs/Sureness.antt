@@ -100,7 +100,6 @@ module _ {A : Type 0} (of_files : block_files.Ghosts A) (world : World) (outs : 
       → next.side.sure ≡ world.side.sure
   answered_sure p bytes session (world_of.replied reply kept desk comes o n) = world_as world n (replied_side p reply session kept (record world { desk = desk }))
   answered_sure p bytes session (world_of.starved e kept desk comes o n) = world_as world n refl
-  answered_sure p bytes session (world_of.uncounted reply kept desk comes more o n) = world_as world n refl
 
   replied_sure : (p : ℕ) (bytes : List ℕ) (found : Option Session) → Replied of_files.tells world p bytes found outs losses next
       → next.side.sure ≡ world.side.sure

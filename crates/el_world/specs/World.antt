@@ -21,7 +21,6 @@ use Rattle.el_lines.specs.NodeAnswers.{node_limit, text_of}
 use Rattle.el_lines.specs.declared.node_answer.NodeAnswer.{NodeAnswer}
 use Rattle.el_side.specs.Plans.{IsMoving}
 use Rattle.el_sessions.specs.declared.session.Session as client
-use Rattle.el_sessions.specs.Sessions.{HasAdded}
 use Rattle.el_relay.specs.Desk.{DeskState, empty_desk}
 use Rattle.el_replies.specs.Losses.{AnswersOf}
 use Rattle.el_replies.specs.Spending.{spent}
@@ -225,8 +224,8 @@ Comes tells side bytes was losses now result =
     IsLineReply (AnswersOf tells side) bytes (spent [] was.desk) was.client (spent losses now.desk) now.client
     result
 
--- A line of a client with this session gets its reply; or no memory was found for it, or to keep count of
--- what the line subscribed to, and the client is closed.
+-- A line of a client with this session gets its reply; or no memory was found for it, and the client is
+-- closed.
 pub data IsAnswered (tells : Type 0) (world : World) (p : ℕ) (bytes : List ℕ) (session : Session)
     (outs : Outs) (losses : List Deed) (next : World) : Type 0 where
   replied : (reply : LineReply) (kept : client.Session) (desk : DeskState)
@@ -235,11 +234,6 @@ pub data IsAnswered (tells : Type 0) (world : World) (p : ℕ) (bytes : List ℕ
       → IsAnswered tells world p bytes session outs losses next
   starved : (e : OutOfMemory) (kept : client.Session) (desk : DeskState)
       → Comes tells world.side bytes (standing session.client world.desk) losses (standing kept desk) (Err e)
-      → outs ≡ closes_memory p → next ≡ without_client p (record world { desk = desk })
-      → IsAnswered tells world p bytes session outs losses next
-  uncounted : (reply : LineReply) (kept : client.Session) (desk : DeskState)
-      → Comes tells world.side bytes (standing session.client world.desk) losses (standing kept desk) (Ok reply)
-      → HasAdded session.client.subs kept.subs
       → outs ≡ closes_memory p → next ≡ without_client p (record world { desk = desk })
       → IsAnswered tells world p bytes session outs losses next
 

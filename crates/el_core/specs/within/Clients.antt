@@ -10,7 +10,6 @@ use Rattle.el_relay.specs.Desk.{DeskState}
 use Rattle.el_replies.specs.Spending.{AskedGhosts, Asking, Did}
 use Rattle.el_side.specs.Deeds.{Deed}
 use Rattle.el_lines.specs.Lines.{LineEvent, line, lines}
-use Rattle.el_sessions.specs.Sessions.{HasAdded}
 use Rattle.el_sessions.specs.declared.session.Session as known
 use Rattle.el_replies.specs.declared.line.LineReply.{LineReply}
 use Rattle.el_subs.specs.Told.{status, OthersTold}
@@ -123,8 +122,8 @@ pub record IsIdly (rose : Passing) : Type 0 where
   pub did : rose.did []
 
 -- What comes of a line of a client over the side: it gets what the line is replied, and may then be closed;
--- or no memory was found for that, or to keep count of what it subscribed to. `was` is what is kept of it for
--- its requests, and then `now`; `rose` says what passed meanwhile.
+-- or no memory was found for that. `was` is what is kept of it for its requests, and then `now`; `rose` says
+-- what passed meanwhile.
 pub data LineAnswered (tells : Type 0) (side : Side) (rose : Passing) (p : ℕ) (bytes : List ℕ)
     (was now : known.Session) (outs : model.Outs) (stays : Bool) : Type 0 where
   replied : (losses : List Deed) (reply : LineReply)
@@ -134,10 +133,6 @@ pub data LineAnswered (tells : Type 0) (side : Side) (rose : Passing) (p : ℕ) 
   starved : (losses : List Deed) (e : OutOfMemory)
       → Comes tells side bytes (standing was rose.was) losses (standing now rose.now) (Err e)
       → outs ≡ closes_memory p → stays ≡ false → rose.did losses
-      → LineAnswered tells side rose p bytes was now outs stays
-  uncounted : (losses : List Deed) (reply : LineReply)
-      → Comes tells side bytes (standing was rose.was) losses (standing now rose.now) (Ok reply)
-      → HasAdded was.subs now.subs → outs ≡ closes_memory p → stays ≡ false → rose.did losses
       → LineAnswered tells side rose p bytes was now outs stays
 
 -- the client, where it stays

@@ -1,23 +1,27 @@
--- Subscriptions of which the first are told, and which of them are touched.
-use Rattle.std.specs.Prelude.{◌≡◌, ℕ, zero, suc, Bool, false, List, [], ◌∷◌, ◌++◌, drop, Option}
+-- What is told of script hashes, one after the other.
+use Rattle.std.specs.Prelude.{ℕ, if◌then◌else◌, List, [], ◌∷◌, ◌++◌, Option, option_map}
+use Rattle.std.specs.Map.{lookup}
+use Rattle.std.specs.Option.{option_to_list}
 use Rattle.el_base.specs.declared.hash.Hash32.{Hash32}
-use Rattle.el_sessions.specs.Sessions.{Subscription}
-use Rattle.el_subs.specs.Told.{news, retold, is_touched}
+use Rattle.el_sessions.specs.Sessions.{Subscription, same_script, is_subscribed, subscribed}
+use Rattle.el_subs.specs.Told.{news}
 
--- there is a subscription of that number, and its script hash is among these
-abbrev pub touched_at : List Hash32 → List Subscription → ℕ → Bool
-touched_at touched [] number = false
-touched_at touched (sub ∷ subs) zero = is_touched touched sub
-touched_at touched (sub ∷ subs) (suc number) = touched_at touched subs number
+-- the subscription to the script hash, if there is one
+abbrev pub one_to : Hash32 → List Subscription → List Subscription
+one_to s subs =
+    option_to_list (option_map (λ (told : Option Hash32). (s, told)) (lookup (same_script s) subs))
 
 module _ (status : Hash32 → Option Hash32) where
-  -- the subscriptions, of which the first so many were told their status
-  abbrev pub partly : ℕ → List Subscription → List Subscription
-  partly zero subs = subs
-  partly (suc i) [] = []
-  partly (suc i) (sub ∷ subs) = retold status sub ∷ partly i subs
+  -- the subscriptions once the one to the script hash, if there is one, is told its status
+  abbrev pub noted : Hash32 → List Subscription → List Subscription
+  noted s subs = if is_subscribed s subs then subscribed s (status s) subs else subs
 
-  -- what was found of so many of the first, and the subscriptions as they are then
-  pub record SoFar (old : List Subscription) (i : ℕ) (found subs : List Subscription) : Type 0 where
-    pub whole : found ++ news status (drop i old) ≡ news status old
-    pub subs_are : subs ≡ partly i old
+  -- the same of each of the script hashes
+  abbrev pub all_noted : List Hash32 → List Subscription → List Subscription
+  all_noted [] subs = subs
+  all_noted (s ∷ scripts) subs = all_noted scripts (noted s subs)
+
+  -- what is told meanwhile
+  abbrev pub all_news : List Hash32 → List Subscription → List Subscription
+  all_news [] subs = []
+  all_news (s ∷ scripts) subs = news status (one_to s subs) ++ all_news scripts (noted s subs)

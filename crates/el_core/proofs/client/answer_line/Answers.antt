@@ -30,8 +30,8 @@ returns-clause-answered g c = rw (← c.client.view_is) (λ side at'.
           (w.closing-in-Err.ensures ∙ ap closes_memory peer_is) refl r.did)
     ])
 
-pub returns-clause-edits : goal.returns-clause-edits
-returns-clause-edits g c = rw (← c.client.view_is) c.reply_line.ensures.edits
+pub returns-clause-watched : goal.returns-clause-watched
+returns-clause-watched g c = rw (← c.client.view_is) c.reply_line.ensures.watched
 
 pub returns-in_default-clause-rows : goal.returns-in_default-clause-rows
 returns-in_default-clause-rows g c = λ chain stood cached.

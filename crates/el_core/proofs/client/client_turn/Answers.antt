@@ -2,8 +2,9 @@ use Rattle.std.proofs.Common.{sym, ap, subst, ◌∙◌, refl, List}
 use Rattle.el_replies.specs.Spending.{asked_ghosts}
 use Rattle.el_side.specs.Beneath.{ghosts}
 use Rattle.el_world.specs.World.{closes_memory}
-use Rattle.el_sessions.specs.Sessions.{Subscription, Edits}
-use Rattle.el_sessions.proofs.Subscribing.{edits_same}
+use Rattle.el_sessions.specs.Sessions.{Subscription}
+use Rattle.el_sessions.specs.Watching.{Follows}
+use Rattle.el_sessions.proofs.Counting.{follows_same}
 use Rattle.el_core.specs.State.{ClientState}
 use Rattle.el_core.specs.within.Clients.{loses, departs, answers, left_if}
 use Rattle.el_core.proofs.Losing.{idly}
@@ -34,21 +35,21 @@ returns-in-Ok-Some-clause-turn g c = λ side at'.
     answers c.answer-outs.result.0 c.in-Ok-Some.met c.next_line.new.self.buffer c.answer-outs.new.client.session c.answer-outs.result.1 (sym c.is_lost.ensures ∙ c.if-is_lost.false) c.in-Ok-Some.ensures.limit gives answered
     (ap (λ (d : ClientState). left_if c.answer-outs.result.1 d) (c.answer-outs.ensures.same ∙ ap (λ (d : ClientState). record d { session = c.answer-outs.new.client.session }) same)) refl
 
-pub returns-in-Err-clause-edits : goal.returns-in-Err-clause-edits
-returns-in-Err-clause-edits g c = rw c.in-Err.ensures.same (edits_same _)
+pub returns-in-Err-clause-watched : goal.returns-in-Err-clause-watched
+returns-in-Err-clause-watched g c = rw c.in-Err.ensures.same (follows_same c.args.client.now.session.subs c.args.watched.now)
 
-pub returns-in-Ok-None-clause-edits : goal.returns-in-Ok-None-clause-edits
-returns-in-Ok-None-clause-edits g c =
+pub returns-in-Ok-None-clause-watched : goal.returns-in-Ok-None-clause-watched
+returns-in-Ok-None-clause-watched g c =
     let same = rw c.in-Ok-None.field-0-is at c.in-Ok-None.ensures.unchanged in
-    rw same (edits_same _)
+    rw same (follows_same c.args.client.now.session.subs c.args.watched.now)
 
 pub returns-in-Ok-None-clause-idle : goal.returns-in-Ok-None-clause-idle
 returns-in-Ok-None-clause-idle g c = (rw c.in-Ok-None.field-0-is at c.in-Ok-None.ensures.unchanged, refl)
 
-pub returns-in-Ok-Some-clause-edits : goal.returns-in-Ok-Some-clause-edits
-returns-in-Ok-Some-clause-edits g c =
+pub returns-in-Ok-Some-clause-watched : goal.returns-in-Ok-Some-clause-watched
+returns-in-Ok-Some-clause-watched g c =
     let same = ap (λ (d : ClientState). d.session.subs) c.in-Ok-Some.ensures.same in
-    subst (λ (l : List Subscription). Edits l c.answer-outs.new.client.session.subs) same c.answer-outs.ensures.edits
+    subst (λ (l : List Subscription). Follows l c.answer-outs.new.client.session.subs c.args.watched.now c.answer-outs.new.watched) same c.answer-outs.ensures.watched
 
 pub returns-then-is_lost-clause-rows : goal.returns-then-is_lost-clause-rows
 returns-then-is_lost-clause-rows g c = λ chain stood cached. none_within (ClientReads chain (g.G.Ledger.buckets c.args.ledger.now) c.args.client.now) _ _ (inl refl) refl

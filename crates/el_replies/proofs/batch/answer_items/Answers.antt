@@ -1,7 +1,7 @@
 use Rattle.std.proofs.Common.{◌≡◌, [], refl, arith}
 use Rattle.el_outside.proofs.Traces.{all_grow_none, all_grow_more}
 use Rattle.el_model.proofs.LedgerMoves.{asked_none, asked_on}
-use Rattle.el_sessions.proofs.Subscribing.{edits_same, edits_more}
+use Rattle.el_sessions.proofs.Counting.{follows_same, follows_more}
 use Rattle.el_side.specs.Beneath.{beneath, ghosts}
 use Rattle.el_side.proofs.Settled.{settled_on}
 use Rattle.el_replies.specs.Losses.{AnswersOf}
@@ -18,7 +18,7 @@ loop-item-init g c =
       quiet = asked_none l
           c.args.ledger.now;
       grows = λ tells. all_grow_none _;
-      edits = edits_same c.args.session.now.subs;
+      watched = follows_same c.args.session.now.subs c.args.watched.now;
       disk_more = omega arith;
       end = c.requires.end;
       rows = λ chain stood kept. rows.begins chain _ c.args.elements.now _;
@@ -41,7 +41,9 @@ loop-item-preserved g c =
           c.loop-item.invariant.quiet c.answer_item.ensures.quiet;
       grows = λ tells. all_grow_more _ _ _ (c.loop-item.invariant.grows tells)
           (c.answer_item.ensures.grows tells);
-      edits = edits_more _ _ _ c.loop-item.invariant.edits c.answer_item.ensures.edits;
+      watched = follows_more c.args.session.now.subs c.loop-item.session.subs c.answer_item.new.session.subs
+          c.args.watched.now c.loop-item.watched c.answer_item.new.watched
+          c.loop-item.invariant.watched c.answer_item.ensures.watched;
       disk_more = omega (arith, c.loop-item.invariant.disk_more, c.answer_item.ensures.disk_more);
       end = c.in_ok-answer_item.ensures.end;
       rows = λ chain stood kept.
@@ -97,8 +99,11 @@ returns-in_err-answer_item-clause-quiet g c =
     asked_on l _ _ _
     c.loop-item.invariant.quiet c.in_err-answer_item.ensures.quiet
 
-pub returns-in_err-answer_item-clause-edits : goal.returns-in_err-answer_item-clause-edits
-returns-in_err-answer_item-clause-edits g c = edits_more _ _ _ c.loop-item.invariant.edits c.in_err-answer_item.ensures.edits
+pub returns-in_err-answer_item-clause-watched : goal.returns-in_err-answer_item-clause-watched
+returns-in_err-answer_item-clause-watched g c =
+    follows_more c.args.session.now.subs c.loop-item.session.subs c.answer_item.new.session.subs
+    c.args.watched.now c.loop-item.watched c.answer_item.new.watched
+    c.loop-item.invariant.watched c.in_err-answer_item.ensures.watched
 
 pub returns-clause-rows : goal.returns-clause-rows
 returns-clause-rows g c = λ chain stood kept. rows.ends chain _ _ c.args.elements.now _ _ (c.loop-item.invariant.rows chain stood kept)

@@ -6,7 +6,7 @@ use Rattle.el_side.specs.NodeSteps.{IsSettled}
 use Rattle.el_side.specs.Side.{Side}
 use Rattle.el_chain.specs.Chains.{Chain}
 use Rattle.el_model.specs.LedgerCalls.{Asked}
-use Rattle.el_sessions.specs.Sessions.{Edits}
+use Rattle.el_sessions.specs.Watching.{Follows}
 use Rattle.el_replies.specs.Batches.{Completes, CutCompletes}
 use Rattle.el_replies.specs.Losses.{AnswersOf}
 use Rattle.el_replies.specs.Spending.{Loses, asked_ghosts, asking}
@@ -26,7 +26,7 @@ invariant-loop-item g l =
       quiet : Asked d
           l.initial.ledger l.ledger;
       grows : a.tells → AllGrow (a.bytes l.initial.archive) (a.bytes l.archive);
-      edits : Edits l.initial.session.subs l.session.subs;
+      watched : Follows l.initial.session.subs l.session.subs l.initial.watched l.watched;
       disk_more : d.faults l.initial.ledger ≤ d.faults l.ledger;
       end : HasEnd l.replies;
       caches : CachesStay d l.initial.ledger l.initial.caches l.caches;

@@ -24,9 +24,10 @@ returns-in_default-clause-none c = λ m.
       | method.GetMempool ↦ c.in_default.not-text-15
       | method.ListUnspent ↦ c.in_default.not-text-16
       | method.ScriptHashSubscribe ↦ c.in_default.not-text-17
-      | method.Broadcast ↦ c.in_default.not-text-18
-      | method.TransactionGet ↦ c.in_default.not-text-19
-      | method.GetMerkle ↦ c.in_default.not-text-20
-      | method.IdFromPos ↦ c.in_default.not-text-21
-      | method.FeeHistogram ↦ c.in_default.not-text-22
+      | method.ScriptHashUnsubscribe ↦ c.in_default.not-text-18
+      | method.Broadcast ↦ c.in_default.not-text-19
+      | method.TransactionGet ↦ c.in_default.not-text-20
+      | method.GetMerkle ↦ c.in_default.not-text-21
+      | method.IdFromPos ↦ c.in_default.not-text-22
+      | method.FeeHistogram ↦ c.in_default.not-text-23
     ]
