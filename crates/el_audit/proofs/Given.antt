@@ -12,11 +12,11 @@ use Rattle.el_chain.specs.Coins.{supply}
 use Rattle.el_audit.specs.declared.claim.Claim.{Claim}
 use Rattle.el_audit.specs.Claims.{claim_of}
 use Rattle.el_audit.specs.within.Lists.{list_of}
-use Rattle.el_audit.specs.within.Comparing.{wanted_claim, IsGiven, AreGiven}
+use Rattle.el_audit.specs.within.Comparing.{wanted_claim, IsGivenByChain, AreGiven}
 
 given_here : {S R : Type 0} (chain : Chain) (claims : List Claim) (i : ℕ) (c : Claim) (histories : IndexMap Hash32 (List Entry) S) (coins : IndexMap Hash32 (List Coin) R) → i < length claims
-    → c ≡ get_or claims i c → AreGiven chain claims histories coins → IsGiven chain histories coins c
-given_here chain claims i c histories coins lt is given = subst (IsGiven chain histories coins) (sym is) (all_at (IsGiven chain histories coins) claims i c given lt)
+    → c ≡ get_or claims i c → AreGiven chain claims histories coins → IsGivenByChain chain histories coins c
+given_here chain claims i c histories coins lt is given = subst (IsGivenByChain chain histories coins) (sym is) (all_at (IsGivenByChain chain histories coins) claims i c given lt)
 
 -- the coins that are given hold no more than all the money
 pub money_given : {S R : Type 0} (chain : Chain) (claims : List Claim) (i : ℕ) (c : Claim) (histories : IndexMap Hash32 (List Entry) S) (coins : IndexMap Hash32 (List Coin) R) (us : List Coin) → i < length claims

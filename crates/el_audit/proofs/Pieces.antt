@@ -23,7 +23,7 @@ use Rattle.el_audit.specs.declared.claim.Report.TheVariants.{Same, Differs}
 use Rattle.el_audit.specs.Claims.{IsRight}
 use Rattle.el_audit.specs.Reports.{IsFirstDifference, IsReport}
 use Rattle.el_audit.specs.within.Lists.{AreLists}
-use Rattle.el_audit.specs.within.Comparing.{IsGiven, AreGiven}
+use Rattle.el_audit.specs.within.Comparing.{IsGivenByChain, AreGiven}
 use Rattle.el_audit.proofs.Bounds.{good_balance}
 use Rattle.el_audit.proofs.Reports.{after_right, before_any}
 
@@ -32,7 +32,7 @@ pub given : {S R : Type 0} (chain : Chain) (claims : List Claim) (is_named : Has
     → AllByRecursion (λ (c : Claim). is_named c.script ≡ true) claims → AreLists is_named histories (λ s. history chain s.0) → AreLists is_named coins (λ s. unspent chain s.0)
     → AreGiven chain claims histories coins
 given chain claims is_named histories coins good named entries values =
-    all_weaker (λ (c : Claim). is_named c.script ≡ true) (IsGiven chain histories coins) claims
+    all_weaker (λ (c : Claim). is_named c.script ≡ true) (IsGivenByChain chain histories coins) claims
     (λ c n. record { history = entries c.script n; unspent = values c.script n; money = good_balance chain c.script.0 good }) named
 
 -- The claims of some pieces are right, and the reports on others are left.

@@ -23,11 +23,11 @@ use Rattle.el_chain.specs.Chains.{Chain}
 use Rattle.el_chain.specs.CoinLaws.{coins_made}
 use Rattle.el_chain.specs.Coins.{script_hash_of, without, add_coin, spend_inputs, coin_made, add_outputs, coins_after, coins_after_all, coins_from}
 use Rattle.el_chain.specs.Headers.{same_hash}
-use Rattle.el_chain.specs.Listings.{listed, listed_in, listed_from}
+use Rattle.el_chain.specs.Listings.{entry_listed, listed_in, listed_from}
 use Rattle.el_chain.proofs.Histories.{blocks_listed}
 use Rattle.el_chain.proofs.TouchLemmas.{hash_gives, hash_from, same_turned}
 use Rattle.el_audit.specs.within.Lists.{grown}
-use Rattle.el_audit.specs.within.OwnCoins.{AreOwn, coins_with, put_all}
+use Rattle.el_audit.specs.within.OwnCoins.{AreOwn, coins_with, put_coins}
 
 -- ---- lists that grow
 
@@ -108,12 +108,12 @@ made_step id height n outputs o made new coin whole lt is so more coin_so =
     ∙ append_assoc made (coin_made id height n o ∷ []) rest
     ∙ ap (λ (os : List TxOut). made ++ coins_made id height n os) (sym left) ∙ so
 
-pub put_step : (made : List Coin) (n : ℕ) (c d : Coin) (coins : List Coin) → n < length made → c ≡ get_or made n d → put_all (drop n made) coins ≡ put_all (drop (n + 1) made) (add_coin c coins)
+pub put_step : (made : List Coin) (n : ℕ) (c d : Coin) (coins : List Coin) → n < length made → c ≡ get_or made n d → put_coins (drop n made) coins ≡ put_coins (drop (n + 1) made) (add_coin c coins)
 put_step made n c d coins lt is =
     let left = left_at made n c lt (is ∙ get_or_default made n d c lt) in
     rw left refl
 
-pub put_outputs : (id : Hash32) (height n : ℕ) (outputs : List TxOut) (coins : List Coin) → put_all (coins_made id height n outputs) coins ≡ add_outputs id height n outputs coins
+pub put_outputs : (id : Hash32) (height n : ℕ) (outputs : List TxOut) (coins : List Coin) → put_coins (coins_made id height n outputs) coins ≡ add_outputs id height n outputs coins
 put_outputs id height n [] coins = refl
 put_outputs id height n (o ∷ os) coins = put_outputs id height (n + 1) os (add_coin (coin_made id height n o) coins)
 
@@ -146,12 +146,12 @@ listed_so s height t coins e b old new w f bw ef is = is ∙ ap (λ (x : Bool). 
 
 -- a transaction's entry was listed, and those of the transactions after it are left
 pub txs_step : (s : List ℕ) (height n : ℕ) (ts : List Tx) (t : Tx) (coins : List Coin) (old new whole : Option (List Entry)) → n < length ts → t ≡ get_or ts n t
-    → grown old (listed_in s height (drop n ts) coins) ≡ whole → new ≡ grown old (listed s height t coins)
+    → grown old (listed_in s height (drop n ts) coins) ≡ whole → new ≡ grown old (entry_listed s height t coins)
     → grown new (listed_in s height (drop (n + 1) ts) (coins_after height t coins)) ≡ whole
 txs_step s height n ts t coins old new whole lt is so more =
     let left = left_at ts n t lt is in
     ap (λ l. grown l (listed_in s height (drop (n + 1) ts) (coins_after height t coins))) more
-    ∙ grown_more old (listed s height t coins) (listed_in s height (drop (n + 1) ts) (coins_after height t coins))
+    ∙ grown_more old (entry_listed s height t coins) (listed_in s height (drop (n + 1) ts) (coins_after height t coins))
     ∙ ap (λ (us : List Tx). grown old (listed_in s height us coins)) (sym left) ∙ so
 
 -- a block's entries were listed, and those of the blocks after it are left
@@ -240,7 +240,7 @@ listed_more {T} look next keys slice i x d v same lt is' says empty before s any
 
 -- one more coin was put in
 pub put_more : {S : Type 0} (new : IndexMap Outpoint (Option Coin) S) (is_named : Hash32 → Bool) (made : List Coin) (i : ℕ) (c d : Coin) (mid whole : List Coin) → i < length made → c ≡ get_or made i d
-    → AreOwn new is_named (add_coin c mid) → whole ≡ put_all (drop i made) mid → (m : List Coin) × AreOwn new is_named m × (whole ≡ put_all (drop (i + 1) made) m)
+    → AreOwn new is_named (add_coin c mid) → whole ≡ put_coins (drop i made) mid → (m : List Coin) × AreOwn new is_named m × (whole ≡ put_coins (drop (i + 1) made) m)
 put_more new is_named made i c d mid whole lt is own so = (add_coin c mid, own, so ∙ put_step made i c d mid lt is)
 
 -- one more script hash is put to a set

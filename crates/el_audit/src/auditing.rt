@@ -4,7 +4,7 @@ ghost use Rattle.std.specs.Fork.{slice_chunk};
 ghost use Rattle.std.specs.List.{AllByRecursion};
 ghost use Rattle.el_chain.specs.Faults.{IsGood};
 ghost use Rattle.el_audit.specs.Reports.{IsReport};
-ghost use Rattle.el_audit.specs.within.Lists.{is_among};
+ghost use Rattle.el_audit.specs.within.Lists.{is_in_set};
 ghost use Rattle.el_audit.specs.declared.claim.Claim as shape;
 
 use crate::claim::{Claim, Report};
@@ -24,7 +24,7 @@ pub const MOST_PIECES: usize = 8;
 // The script hashes of the claims.
 fn names_of(alloc: Global, claims: &[Claim]) -> Result<IndexSet<Hash32>, OutOfMemory>
     ensures { IfOk result (λ names.
-        AllByRecursion (λ (c : shape.Claim). is_among names c.script ≡ true) claims.now) }
+        AllByRecursion (λ (c : shape.Claim). is_in_set names c.script ≡ true) claims.now) }
 {
     let mut names = IndexSet::new(alloc);
     for claim in claims {

@@ -5,7 +5,7 @@ ghost use Rattle.std.specs.Option.{unwrap_or};
 ghost use Rattle.el_base.specs.declared.hash.Hash32 as shape;
 ghost use Rattle.el_block.specs.Blocks.{AllDiffer};
 ghost use Rattle.el_chain.specs.Headers.{same_hash};
-ghost use Rattle.el_audit.specs.within.Lists.{is_among, list_of, grown, AreLists};
+ghost use Rattle.el_audit.specs.within.Lists.{is_in_set, list_of, grown, AreLists};
 
 use el_base::{Hash32, Listed, OutOfMemory};
 use el_chain::Entry;
@@ -17,7 +17,7 @@ pub fn empty_lists<T: Drop>(
     alloc: Global,
     names: &IndexSet<Hash32>,
 ) -> Result<IndexMap<Hash32, Listed<T>>, OutOfMemory>
-    ensures { IfOk result (λ lists. AreLists (is_among names.now) lists (λ s. [])) }
+    ensures { IfOk result (λ lists. AreLists (is_in_set names.now) lists (λ s. [])) }
 {
     let mut lists = IndexMap::new(alloc);
     for name in names.as_slice() {

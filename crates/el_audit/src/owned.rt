@@ -3,8 +3,8 @@ ghost use Rattle.std.specs.Prelude.{◌≡◌, ◌<◌, ◌^◌, Bool, length, o
 ghost use Rattle.el_base.specs.declared.hash.Hash32 as shape;
 ghost use Rattle.el_chain.specs.Coins as spec;
 ghost use Rattle.el_chain.specs.CoinLaws.{coins_made};
-ghost use Rattle.el_audit.specs.within.Lists.{is_among, list_of, grown, AreLists};
-ghost use Rattle.el_audit.specs.within.OwnCoins.{AreOwn, IfOwn, coin_in_table, coins_with, put_all};
+ghost use Rattle.el_audit.specs.within.Lists.{is_in_set, list_of, grown, AreLists};
+ghost use Rattle.el_audit.specs.within.OwnCoins.{AreOwn, IfOwn, coin_in_table, coins_with, put_coins};
 
 use crate::lists::{add_to, empty_lists};
 use el_base::{Hash32, Listed, OutOfMemory, sha256};
@@ -88,8 +88,8 @@ fn put(
     names: &IndexSet<Hash32>,
     coin: Coin,
 ) -> Result<(), OutOfMemory>
-    ensures { IfOwn own.old (is_among names.now) (λ coins.
-        OnOk result (AreOwn own.new (is_among names.now) (spec.add_coin coin coins))) }
+    ensures { IfOwn own.old (is_in_set names.now) (λ coins.
+        OnOk result (AreOwn own.new (is_in_set names.now) (spec.add_coin coin coins))) }
 {
     own.shift_remove(&coin.outpoint);
     if names.contains(&coin.script) {
@@ -104,8 +104,8 @@ pub fn put_made(
     names: &IndexSet<Hash32>,
     made: &[Coin],
 ) -> Result<(), OutOfMemory>
-    ensures { IfOwn own.old (is_among names.now) (λ coins.
-        OnOk result (AreOwn own.new (is_among names.now) (put_all made.now coins))) }
+    ensures { IfOwn own.old (is_in_set names.now) (λ coins.
+        OnOk result (AreOwn own.new (is_in_set names.now) (put_coins made.now coins))) }
 {
     for coin in made {
         put(own, names, *coin)?;
@@ -130,8 +130,8 @@ pub fn coins_by_script(
     names: &IndexSet<Hash32>,
     own: &IndexMap<Outpoint, Option<Coin>>,
 ) -> Result<IndexMap<Hash32, Listed<Coin>>, OutOfMemory>
-    ensures { IfOwn own.now (is_among names.now) (λ coins.
-        IfOk result (λ lists. AreLists (is_among names.now) lists (λ s. coins_with s coins))) }
+    ensures { IfOwn own.now (is_in_set names.now) (λ coins.
+        IfOk result (λ lists. AreLists (is_in_set names.now) lists (λ s. coins_with s coins))) }
 {
     let mut lists = empty_lists(alloc, names)?;
     for coin in own.values() {

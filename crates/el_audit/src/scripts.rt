@@ -10,7 +10,7 @@ ghost use Rattle.el_chain.specs.Coins.{script_hash_of};
 ghost use Rattle.el_chain.specs.Headers.{same_hash};
 ghost use Rattle.el_chain.specs.History.{funds};
 ghost use Rattle.el_audit.specs.Claims.{is_paid_in};
-ghost use Rattle.el_audit.specs.within.Lists.{is_among};
+ghost use Rattle.el_audit.specs.within.Lists.{is_in_set};
 
 use el_base::{Hash32, OutOfMemory, sha256};
 use el_chain::Placed;
@@ -20,7 +20,7 @@ use std::alloc::Global;
 
 // Adds the script hashes of the outputs.
 fn add_outputs(scripts: &mut IndexSet<Hash32>, outputs: &[TxOut]) -> Result<(), OutOfMemory>
-    ensures { OnOk result ((s : shape.Hash32) → is_among scripts.new s ≡ (is_among scripts.old s
+    ensures { OnOk result ((s : shape.Hash32) → is_in_set scripts.new s ≡ (is_in_set scripts.old s
         || list_any (λ (o : output_shape.TxOut). bytes_eq (script_hash_of o) s.0) outputs.now)) }
 {
     for output in outputs {
@@ -31,8 +31,8 @@ fn add_outputs(scripts: &mut IndexSet<Hash32>, outputs: &[TxOut]) -> Result<(), 
 
 // Adds those of the transactions' outputs.
 fn add_txs(scripts: &mut IndexSet<Hash32>, txs: &[Tx]) -> Result<(), OutOfMemory>
-    ensures { OnOk result ((s : shape.Hash32) → is_among scripts.new s
-        ≡ (is_among scripts.old s || list_any (funds s.0) txs.now)) }
+    ensures { OnOk result ((s : shape.Hash32) → is_in_set scripts.new s
+        ≡ (is_in_set scripts.old s || list_any (funds s.0) txs.now)) }
 {
     for tx in txs {
         add_outputs(scripts, tx.outputs.as_slice())?;
@@ -42,7 +42,7 @@ fn add_txs(scripts: &mut IndexSet<Hash32>, txs: &[Tx]) -> Result<(), OutOfMemory
 
 // The script hashes of the chain's outputs.
 fn gather(alloc: Global, chain: &[Placed]) -> Result<IndexSet<Hash32>, OutOfMemory>
-    ensures { IfOk result (λ scripts. (s : shape.Hash32) → is_among scripts s ≡ is_paid_in chain.now s) }
+    ensures { IfOk result (λ scripts. (s : shape.Hash32) → is_in_set scripts s ≡ is_paid_in chain.now s) }
 {
     let mut scripts = IndexSet::new(alloc);
     for placed in chain {

@@ -5,8 +5,8 @@ ghost use Rattle.el_chain.specs.CoinLists.{FitsBlock};
 ghost use Rattle.el_chain.specs.Coins as spec;
 ghost use Rattle.el_chain.specs.Faults.{IsGood};
 ghost use Rattle.el_chain.specs.History.{history};
-ghost use Rattle.el_chain.specs.Listings.{listed, listed_in};
-ghost use Rattle.el_audit.specs.within.Lists.{is_among, HaveGrown, AreLists};
+ghost use Rattle.el_chain.specs.Listings.{entry_listed, listed_in};
+ghost use Rattle.el_audit.specs.within.Lists.{is_in_set, HaveGrown, AreLists};
 ghost use Rattle.el_audit.specs.within.OwnCoins.{AreOwn, IfOwn};
 
 use crate::concerned::concerned;
@@ -28,10 +28,10 @@ fn add_tx(
     lists: &mut IndexMap<Hash32, Listed<Entry>>,
 ) -> Result<(), OutOfMemory>
     requires { FitsBlock tx.now }
-    ensures own { IfOwn own.old (is_among names.now) (λ coins.
-        OnOk result (AreOwn own.new (is_among names.now) (spec.coins_after height tx.now coins))) }
-    ensures lists { IfOwn own.old (is_among names.now) (λ coins. OnOk result
-        (HaveGrown (is_among names.now) lists.old lists.new (λ s. listed s.0 height tx.now coins))) }
+    ensures own { IfOwn own.old (is_in_set names.now) (λ coins.
+        OnOk result (AreOwn own.new (is_in_set names.now) (spec.coins_after height tx.now coins))) }
+    ensures lists { IfOwn own.old (is_in_set names.now) (λ coins. OnOk result
+        (HaveGrown (is_in_set names.now) lists.old lists.new (λ s. entry_listed s.0 height tx.now coins))) }
 {
     let txid = txid(alloc, tx)?;
     let made = coins_of(alloc, height, txid, tx.outputs.as_slice())?;
@@ -52,10 +52,10 @@ fn add_txs(
     lists: &mut IndexMap<Hash32, Listed<Entry>>,
 ) -> Result<(), OutOfMemory>
     requires { AllByRecursion FitsBlock txs.now }
-    ensures own { IfOwn own.old (is_among names.now) (λ coins.
-        OnOk result (AreOwn own.new (is_among names.now) (spec.coins_after_all height txs.now coins))) }
-    ensures lists { IfOwn own.old (is_among names.now) (λ coins. OnOk result
-        (HaveGrown (is_among names.now) lists.old lists.new (λ s. listed_in s.0 height txs.now coins))) }
+    ensures own { IfOwn own.old (is_in_set names.now) (λ coins.
+        OnOk result (AreOwn own.new (is_in_set names.now) (spec.coins_after_all height txs.now coins))) }
+    ensures lists { IfOwn own.old (is_in_set names.now) (λ coins. OnOk result
+        (HaveGrown (is_in_set names.now) lists.old lists.new (λ s. listed_in s.0 height txs.now coins))) }
 {
     for tx in txs {
         add_tx(alloc, names, height, tx, own, lists)?;
@@ -77,9 +77,9 @@ pub fn walk(
     OutOfMemory,
 >
     requires { IsGood chain.now }
-    ensures own { IfOk result (λ found. AreOwn found.0 (is_among names.now) (spec.coins chain.now)) }
+    ensures own { IfOk result (λ found. AreOwn found.0 (is_in_set names.now) (spec.coins chain.now)) }
     ensures lists { IfOk result (λ found.
-        AreLists (is_among names.now) found.1 (λ s. history chain.now s.0)) }
+        AreLists (is_in_set names.now) found.1 (λ s. history chain.now s.0)) }
 {
     let mut own = IndexMap::new(alloc);
     let mut lists = empty_lists(alloc, names)?;

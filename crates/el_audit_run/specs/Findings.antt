@@ -82,7 +82,8 @@ pub record IsTipPath (tip : Option Hash32) (tree path : List Node) : Type 0 wher
 
 -- the blocks of such a path are audited: they aren't too large
 abbrev pub IsAudited : Option Hash32 → List Node → (List Node → Type 0) → Type 0
-IsAudited tip tree P = (path : List Node) × IsTipPath tip tree path × (path_bytes path ≤ MAX_AUDIT_BYTES) × P path
+IsAudited tip tree P = (path : List Node) × IsTipPath tip tree path × (path_bytes path ≤ MAX_AUDIT_BYTES)
+    × P path
 
 -- What an audit finds of an index whose last block has this hash, over the nodes of a scan. `stands` says for
 -- which chains the index stands.

@@ -9,7 +9,7 @@ ghost use Rattle.el_headers.specs.Adding.{HasNoPath};
 ghost use Rattle.el_lines.specs.NodeAnswers as answers;
 ghost use Rattle.el_model.specs.LedgerCalls.{Asked};
 ghost use Rattle.el_audit_run.specs.Findings.{IsCompared, IsFinding, block_refused};
-ghost use Rattle.el_audit_run.specs.within.Faults.{IsUnreached, IsUnread};
+ghost use Rattle.el_audit_run.specs.within.Faults.{IsUnreached, IsFaultyBlock};
 
 use crate::asking::claims_of;
 use crate::bytes::{MAX_AUDIT_BYTES, path_bytes, tx_count};
@@ -39,7 +39,7 @@ fn unreached(tip: Hash32, fault: PathFault) -> Result<Finding, AuditFault>
 
 // What is found where a block of the path can't be put after those before it.
 fn unread(fault: MoveFault) -> Result<Finding, AuditFault>
-    ensures found { IfOk result (IsUnread fault) }
+    ensures found { IfOk result (IsFaultyBlock fault) }
     ensures archive { result ≡ Err AuditFault.ArchiveFailed ↔ fault ≡ MoveFault.ArchiveFailed }
     ensures no_disk { result ≢ Err AuditFault.DiskFailed }
 {

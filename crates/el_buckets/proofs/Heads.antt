@@ -21,7 +21,7 @@ use Rattle.el_row_formats.specs.RowBytes.{tx_row_bytes, head_row_bytes, script_r
 use Rattle.el_buckets.specs.declared.bucket.Buckets.{Buckets}
 use Rattle.el_buckets.specs.declared.bucket.Buckets.TheVariants as buckets
 use Rattle.el_schema.specs.Rows.{Hold, head_fields, tx_fields, script_fields}
-use Rattle.el_buckets.specs.Buckets.{rows_of, heads_of, hashes_of, count_of, below, share_bucket, bucket_head}
+use Rattle.el_buckets.specs.Buckets.{rows_table, heads_of, hashes_of, count_of, below, share_bucket, bucket_head}
 use Rattle.el_schema.proofs.Held.{all_at, greatest_map, no_tx, no_tx_row, count_txs, count_scripts}
 use Rattle.el_buckets.proofs.Walks.{greatest_passes}
 
@@ -64,7 +64,7 @@ head_greatest count hash xs h rows r some is fit only =
 pub head_found : (k : Buckets) (counts : HeadCounts) (bs : List ListedBlock) (l : Lists) (rows : held.Tables) (h : Hash32) (r : HeadRow) (buf : List ℕ) → Hold counts bs l rows → 0 < count_of k counts
     → buf ≡ get_or (rows (heads_of k)) (bucket_in (length (rows (heads_of k))) h) []
     → ((s : HeadRow) → FitsHeadRow s → head_row_bytes s ≡ buf → s ≡ r)
-    → below (length (rows (rows_of k))) r.head ≡ bucket_head (count_of k counts) h (hashes_of k l)
+    → below (length (rows (rows_table k))) r.head ≡ bucket_head (count_of k counts) h (hashes_of k l)
 head_found buckets.Txids counts bs l rows h r buf hold some is only =
     let hash : ListedTx → Hash32 = λ (t : ListedTx). t.txid in
     let found = head_greatest counts.txs hash l.txs h (rows table.TxHeads) r some (hold.each table.TxHeads) hold.fit.tx_heads (λ s fits e. only s fits (e ∙ sym is)) in
@@ -82,7 +82,7 @@ head_found buckets.ScriptHashes counts bs l rows h r buf hold some is only =
 
 -- the hash of a row, and the link to the next, that its bytes read as
 pub row_found : (k : Buckets) (counts : HeadCounts) (bs : List ListedBlock) (l : Lists) (rows : held.Tables) (n : ℕ) (buf : List ℕ) (hash : Hash32) (next : Option ℕ) → Hold counts bs l rows
-    → n < length (rows (rows_of k)) → buf ≡ get_or (rows (rows_of k)) n []
+    → n < length (rows (rows_table k)) → buf ≡ get_or (rows (rows_table k)) n []
     → ((r : TxRow) → k ≡ buckets.Txids → FitsTxRow r → tx_row_bytes r ≡ buf → (hash ≡ r.txid) × (next ≡ r.next))
     → ((r : ScriptRow) → k ≡ buckets.ScriptHashes → FitsScriptRow r → script_row_bytes r ≡ buf → (hash ≡ r.script) × (next ≡ r.next))
     → (hash ≡ get_or (hashes_of k l) n zero_hash) × (below n next ≡ bucket_head (count_of k counts) hash (take n (hashes_of k l))) × (next ≡ bucket_head (count_of k counts) hash (take n (hashes_of k l)))

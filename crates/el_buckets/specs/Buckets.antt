@@ -12,9 +12,9 @@ use Rattle.el_buckets.specs.declared.bucket.Buckets.{Buckets}
 use Rattle.el_buckets.specs.declared.bucket.Buckets.TheVariants as buckets
 
 -- the table of the rows
-abbrev pub rows_of : Buckets → Table
-rows_of buckets.Txids = table.Txs
-rows_of buckets.ScriptHashes = table.Scripts
+abbrev pub rows_table : Buckets → Table
+rows_table buckets.Txids = table.Txs
+rows_table buckets.ScriptHashes = table.Scripts
 
 -- the table of the heads
 abbrev pub heads_of : Buckets → Table
@@ -54,14 +54,14 @@ bucket_head count h hs = greatest (share_bucket count h) hs
 
 -- A row more, of a hash: it stands after the others, and is the head of its bucket.
 pub record Pushed (buckets : Buckets) (h : Hash32) (row : List ℕ) (old new : Tables) : Type 0 where
-  pub rows : new (rows_of buckets) ≡ old (rows_of buckets) ++ row ∷ []
+  pub rows : new (rows_table buckets) ≡ old (rows_table buckets) ++ row ∷ []
   pub heads : new (heads_of buckets)
       ≡ slice_set (old (heads_of buckets)) (bucket_in (length (old (heads_of buckets))) h)
-      (link_bytes (Some (length (old (rows_of buckets)))))
+      (link_bytes (Some (length (old (rows_table buckets)))))
 
 -- The first n rows are left, and the head of the hash's bucket is this link.
 pub record Popped (buckets : Buckets) (h : Hash32) (n : ℕ) (next : Option ℕ) (old new : Tables) : Type 0 where
-  pub rows : new (rows_of buckets) ≡ take n (old (rows_of buckets))
+  pub rows : new (rows_table buckets) ≡ take n (old (rows_table buckets))
   pub heads : new (heads_of buckets)
       ≡ slice_set (old (heads_of buckets)) (bucket_in (length (old (heads_of buckets))) h) (link_bytes next)
 

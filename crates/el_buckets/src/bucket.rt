@@ -5,7 +5,7 @@ ghost use Rattle.el_row_formats.specs.RowBytes.{tx_row_bytes, script_row_bytes, 
 ghost use Rattle.el_row_formats.specs.declared.tx_row.TxRow as tx_shape;
 ghost use Rattle.el_row_formats.specs.declared.script_row.ScriptRow as script_shape;
 ghost use Rattle.el_tables.specs.Tables.{bucket_in};
-ghost use Rattle.el_buckets.specs.Buckets.{rows_of, heads_of, below};
+ghost use Rattle.el_buckets.specs.Buckets.{rows_table, heads_of, below};
 
 use el_base::Hash32;
 use el_row_formats::{ScriptRow, Table, TxRow};
@@ -22,7 +22,7 @@ pub enum Buckets {
 impl Buckets {
     /// The table of the rows.
     pub fn rows(self) -> Table
-        ensures { result ≡ rows_of self }
+        ensures { result ≡ rows_table self }
     {
         match self {
             Buckets::Txids => Table::Txs,
@@ -42,7 +42,7 @@ impl Buckets {
 
     // The hash of a row, and its link to the next in its bucket.
     pub(crate) fn hash_and_next(self, row: &[u8]) -> (Hash32, Option<u64>)
-        requires { length row.now ≡ size_of (rows_of self) }
+        requires { length row.now ≡ size_of (rows_table self) }
         ensures tx { (r : tx_shape.TxRow) → self ≡ Buckets.Txids → FitsTxRow r → tx_row_bytes r ≡ row.now
             → (result.0 ≡ r.txid) × (result.1 ≡ r.next) }
         ensures script { (r : script_shape.ScriptRow) → self ≡ Buckets.ScriptHashes → FitsScriptRow r

@@ -7,7 +7,7 @@ use Rattle.serde_json.specs.Data.{Data}
 use Rattle.serde_json.specs.Find.{as_bool, as_str, as_object}
 use Rattle.el_base.specs.declared.hash.Hash32.{Hash32}
 use Rattle.el_json.specs.declared.params.Params.{Params}
-use Rattle.el_json.specs.Parameters.{given, has_only, number_in, hash_in}
+use Rattle.el_json.specs.Parameters.{given, has_only, number_in, hash_from_hex}
 use Rattle.el_calls.specs.declared.method.Method.{Method}
 use Rattle.el_calls.specs.declared.method.Method.TheVariants as method
 use Rattle.el_calls.specs.declared.call.Call.{Call}
@@ -35,8 +35,8 @@ otherwise value kind None = Ok value
 otherwise value kind (Some d) = ok_or (kind d) InvalidParams
 
 -- the kind of what passes the test
-abbrev pub passing : (Data → Bool) → Data → Option (Unit {0})
-passing test d = if test d then Some tt else None
+abbrev pub passing_test : (Data → Bool) → Data → Option (Unit {0})
+passing_test test d = if test d then Some tt else None
 
 -- the value is a string
 abbrev pub is_text : Data → Bool
@@ -73,38 +73,38 @@ abbrev pub of_script_hash : (Hash32 → Call) → Row
 of_script_hash make = record {
   names = codes "scripthash" ∷ [];
   call = λ p. do
-    script_hash ← needed hash_in (given p 0 (codes "scripthash"))
+    script_hash ← needed hash_from_hex (given p 0 (codes "scripthash"))
     Ok (make script_hash);
 }
 
 -- The table of methods.
-abbrev pub row_of : Method → Row
-row_of method.ServerVersion = record {
+abbrev pub method_row : Method → Row
+method_row method.ServerVersion = record {
   names = codes "client_name" ∷ codes "protocol_version" ∷ [];
   call = λ p. do
-    client_name ← otherwise tt (passing is_text) (given p 0 (codes "client_name"))
+    client_name ← otherwise tt (passing_test is_text) (given p 0 (codes "client_name"))
     versions ← otherwise (default_version, default_version) versions_in (given p 1 (codes "protocol_version"))
     Ok (call.ServerVersion versions.0 versions.1);
 }
-row_of method.ServerBanner = plain call.ServerBanner
-row_of method.ServerDonationAddress = plain call.ServerDonationAddress
-row_of method.ServerFeatures = plain call.ServerFeatures
-row_of method.ServerPing = plain call.ServerPing
-row_of method.ServerPeersSubscribe = plain call.ServerPeersSubscribe
-row_of method.ServerAddPeer = record {
+method_row method.ServerBanner = plain call.ServerBanner
+method_row method.ServerDonationAddress = plain call.ServerDonationAddress
+method_row method.ServerFeatures = plain call.ServerFeatures
+method_row method.ServerPing = plain call.ServerPing
+method_row method.ServerPeersSubscribe = plain call.ServerPeersSubscribe
+method_row method.ServerAddPeer = record {
   names = codes "features" ∷ [];
   call = λ p. do
-    features ← needed (passing is_object) (given p 0 (codes "features"))
+    features ← needed (passing_test is_object) (given p 0 (codes "features"))
     Ok call.ServerAddPeer;
 }
-row_of method.BlockHeader = record {
+method_row method.BlockHeader = record {
   names = codes "height" ∷ codes "cp_height" ∷ [];
   call = λ p. do
     height ← needed number_in (given p 0 (codes "height"))
     cp_height ← otherwise 0 number_in (given p 1 (codes "cp_height"))
     Ok (call.BlockHeader height cp_height);
 }
-row_of method.BlockHeaders = record {
+method_row method.BlockHeaders = record {
   names = codes "start_height" ∷ codes "count" ∷ codes "cp_height" ∷ [];
   call = λ p. do
     start_height ← needed number_in (given p 0 (codes "start_height"))
@@ -112,41 +112,41 @@ row_of method.BlockHeaders = record {
     cp_height ← otherwise 0 number_in (given p 2 (codes "cp_height"))
     Ok (call.BlockHeaders start_height count cp_height);
 }
-row_of method.EstimateFee = record {
+method_row method.EstimateFee = record {
   names = codes "number" ∷ [];
   call = λ p. do
     number ← needed number_in (given p 0 (codes "number"))
     Ok call.EstimateFee;
 }
-row_of method.RelayFee = plain call.RelayFee
-row_of method.HeadersSubscribe = plain call.HeadersSubscribe
-row_of method.GetBalance = of_script_hash call.GetBalance
-row_of method.GetHistory = of_script_hash call.GetHistory
-row_of method.GetMempool = of_script_hash call.GetMempool
-row_of method.ListUnspent = of_script_hash call.ListUnspent
-row_of method.ScriptHashSubscribe = of_script_hash call.ScriptHashSubscribe
-row_of method.ScriptHashUnsubscribe = of_script_hash call.ScriptHashUnsubscribe
-row_of method.Broadcast = record {
+method_row method.RelayFee = plain call.RelayFee
+method_row method.HeadersSubscribe = plain call.HeadersSubscribe
+method_row method.GetBalance = of_script_hash call.GetBalance
+method_row method.GetHistory = of_script_hash call.GetHistory
+method_row method.GetMempool = of_script_hash call.GetMempool
+method_row method.ListUnspent = of_script_hash call.ListUnspent
+method_row method.ScriptHashSubscribe = of_script_hash call.ScriptHashSubscribe
+method_row method.ScriptHashUnsubscribe = of_script_hash call.ScriptHashUnsubscribe
+method_row method.Broadcast = record {
   names = codes "raw_tx" ∷ [];
   call = λ p. do
     raw_tx ← needed hex_in (given p 0 (codes "raw_tx"))
     Ok (call.Broadcast raw_tx);
 }
-row_of method.TransactionGet = record {
+method_row method.TransactionGet = record {
   names = codes "tx_hash" ∷ codes "verbose" ∷ [];
   call = λ p. do
-    tx_hash ← needed hash_in (given p 0 (codes "tx_hash"))
+    tx_hash ← needed hash_from_hex (given p 0 (codes "tx_hash"))
     verbose ← otherwise false as_bool (given p 1 (codes "verbose"))
     Ok (call.TransactionGet tx_hash verbose);
 }
-row_of method.GetMerkle = record {
+method_row method.GetMerkle = record {
   names = codes "tx_hash" ∷ codes "height" ∷ [];
   call = λ p. do
-    tx_hash ← needed hash_in (given p 0 (codes "tx_hash"))
+    tx_hash ← needed hash_from_hex (given p 0 (codes "tx_hash"))
     height ← needed number_in (given p 1 (codes "height"))
     Ok (call.GetMerkle tx_hash height);
 }
-row_of method.IdFromPos = record {
+method_row method.IdFromPos = record {
   names = codes "height" ∷ codes "tx_pos" ∷ codes "merkle" ∷ [];
   call = λ p. do
     height ← needed number_in (given p 0 (codes "height"))
@@ -154,14 +154,14 @@ row_of method.IdFromPos = record {
     merkle ← otherwise false as_bool (given p 2 (codes "merkle"))
     Ok (call.IdFromPos height tx_pos merkle);
 }
-row_of method.FeeHistogram = plain call.FeeHistogram
+method_row method.FeeHistogram = plain call.FeeHistogram
 
 -- The call of this method with these parameters: none may be missing, one too many, unknown or not of its
 -- kind.
 abbrev pub called : Method → Params → Result Call Refusal
 called m p = do
-  nothing ← only (row_of m).names p
-  (row_of m).call p
+  nothing ← only (method_row m).names p
+  (method_row m).call p
 
 -- What a request by that name asks for: an unknown name comes before what is given.
 pub data IsCalled (name : List ℕ) (p : Params) (asked : Result Call Refusal) : Type 0 where
@@ -172,7 +172,7 @@ pub data IsCalled (name : List ℕ) (p : Params) (asked : Result Call Refusal) :
 abbrev pub script_hash_in : Params → Result Hash32 Refusal
 script_hash_in p = do
   nothing ← only (codes "scripthash" ∷ []) p
-  needed hash_in (given p 0 (codes "scripthash"))
+  needed hash_from_hex (given p 0 (codes "scripthash"))
 
 -- a call without parameters
 abbrev pub plain_call : Call → Params → Result Call Refusal

@@ -46,9 +46,9 @@ part_or_zero None = Some 0
 part_or_zero (Some text) = part_of text
 
 -- what stands after the first dot, cut at the next one; where nothing does, a part 0 (48 is '0')
-abbrev pub rest_of : Option (List ℕ) → List ℕ × Option (List ℕ)
-rest_of None = (48 ∷ [], None)
-rest_of (Some text) = cut_at_dot text
+abbrev pub after_first_dot : Option (List ℕ) → List ℕ × Option (List ℕ)
+after_first_dot None = (48 ∷ [], None)
+after_first_dot (Some text) = cut_at_dot text
 
 -- the version whose first part is that text, and whose others are in what was cut
 abbrev pub version_with : List ℕ → List ℕ × Option (List ℕ) → Option VersionParts
@@ -60,7 +60,7 @@ version_with first cut = do
 
 -- the version that the text names
 abbrev pub version_of : List ℕ → Option VersionParts
-version_of text = version_with (cut_at_dot text).0 (rest_of (cut_at_dot text).1)
+version_of text = version_with (cut_at_dot text).0 (after_first_dot (cut_at_dot text).1)
 
 -- a text that names a version
 abbrev pub version_in : Data → Option VersionParts
@@ -126,7 +126,8 @@ greatest_shared least most = first_within served least most
 abbrev pub IsGreatest : VersionParts → VersionParts → Version → Type 0
 IsGreatest least most v =
     (lies_within least most v ≡ true)
-    × ((other : Version) → lies_within least most other ≡ true → is_up_to (parts_of other) (parts_of v) ≡ true)
+    × ((other : Version) → lies_within least most other ≡ true
+    → is_up_to (parts_of other) (parts_of v) ≡ true)
 
 -- what a client takes that names no version
 abbrev pub default_version : VersionParts

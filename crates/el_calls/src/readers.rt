@@ -1,8 +1,8 @@
 // Parameters read as calls.
 ghost use Rattle.std.specs.Prelude.{◌≡◌, ◌≢◌, if◌then◌else◌, Ok, Err, IfOk, false, [], codes};
 ghost use Rattle.serde_json.specs.Find.{as_bool};
-ghost use Rattle.el_json.specs.Parameters.{given, has_only, number_in, hash_in, texts_of};
-ghost use Rattle.el_calls.specs.Methods.{needed, otherwise, only, passing, hex_in, is_text, is_object, called, script_hash_in, plain_call, IsCalled};
+ghost use Rattle.el_json.specs.Parameters.{given, has_only, number_in, hash_from_hex, texts_of};
+ghost use Rattle.el_calls.specs.Methods.{needed, otherwise, only, passing_test, hex_in, is_text, is_object, called, script_hash_in, plain_call, IsCalled};
 ghost use Rattle.el_calls.specs.Versions.{versions_in, default_version};
 
 use crate::call::{Call, VersionParts};
@@ -58,7 +58,7 @@ fn flag_or_false(params: &Params, place: usize, name: &str) -> Result<bool, Refu
 
 // A hash that must be given.
 fn hash(params: &Params, place: usize, name: &str) -> Result<Hash32, Refusal>
-    ensures { result ≡ needed hash_in (given params.now place name.now) }
+    ensures { result ≡ needed hash_from_hex (given params.now place name.now) }
 {
     match params.given(place, name) {
         Some(param) => param.hash().ok_or(Refusal::InvalidParams),
@@ -180,7 +180,7 @@ fn get_merkle(params: &Params) -> Result<Call, Refusal>
 
 // That an object is given for the features of a peer.
 fn features(params: &Params) -> Result<(), Refusal>
-    ensures { result ≡ needed (passing is_object) (given params.now 0 (codes "features")) }
+    ensures { result ≡ needed (passing_test is_object) (given params.now 0 (codes "features")) }
 {
     match params.given(0, "features") {
         Some(param) => if param.is_object() {
@@ -231,7 +231,7 @@ fn broadcast(alloc: Global, params: &Params) -> Result<Result<Call, Refusal>, Ou
 
 // That the client's name is a text, where it is given.
 fn client_name(params: &Params) -> Result<(), Refusal>
-    ensures { result ≡ otherwise tt (passing is_text) (given params.now 0 (codes "client_name")) }
+    ensures { result ≡ otherwise tt (passing_test is_text) (given params.now 0 (codes "client_name")) }
 {
     match params.given(0, "client_name") {
         Some(param) => if param.text().is_some() {

@@ -14,7 +14,7 @@ use Rattle.el_chain.specs.declared.entry.Entry.{Entry}
 use Rattle.el_chain.specs.Chains.{Chain}
 use Rattle.el_chain.specs.Coins.{without, add_coin, coins_after, coins_after_all}
 use Rattle.el_chain.specs.History.{Position, funds, concerns, entry, positions_in, block_positions, first_start, positions_from, has_own}
-use Rattle.el_chain.specs.Listings.{listed, entries_of, listed_in, listed_from}
+use Rattle.el_chain.specs.Listings.{entry_listed, entries_of, listed_in, listed_from}
 use Rattle.el_chain.proofs.CoinLists.{same_gives, apart_turned}
 
 -- the script hash's own coins where one coin is taken
@@ -91,7 +91,7 @@ block_listed script_hash height pos start [] coins = refl
 block_listed script_hash height pos start (t ∷ ts) coins =
     let later = positions_in height (pos + 1) (start + length (full_encoding t)) ts (coins_after height t coins) in
     entries_before script_hash (record { height = height; pos = pos; start = start; tx = t; before = coins }) later
-    ∙ ap (λ (es : List Entry). listed script_hash height t coins ++ es) (block_listed script_hash height (pos + 1) (start + length (full_encoding t)) ts (coins_after height t coins))
+    ∙ ap (λ (es : List Entry). entry_listed script_hash height t coins ++ es) (block_listed script_hash height (pos + 1) (start + length (full_encoding t)) ts (coins_after height t coins))
 
 -- the entries of blocks, of which one stands before the others
 pub blocks_listed : (script_hash : List ℕ) (height : ℕ) (b : Placed) (bs : Chain) (coins : List Coin)

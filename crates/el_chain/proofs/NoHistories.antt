@@ -12,7 +12,7 @@ use Rattle.el_tx.specs.Hashing.{txid, is_coinbase, same_outpoint}
 use Rattle.el_chain.specs.declared.coin.Coin.{Coin}
 use Rattle.el_chain.specs.Chains.{Chain}
 use Rattle.el_chain.specs.Coins.{script_hash_of, without, add_coin, coin_made, spend_inputs, add_outputs, coins_left, coins_after, coins_after_all}
-use Rattle.el_chain.specs.CoinLaws.{HasNone}
+use Rattle.el_chain.specs.CoinLaws.{PaysNone}
 use Rattle.el_chain.specs.History.{funds, spends, has_own}
 use Rattle.el_chain.specs.Listings.{listed_in, listed_from}
 use Rattle.el_chain.proofs.Histories.{own_without, own_put, blocks_listed}
@@ -63,7 +63,7 @@ block_none script_hash height (t ∷ ts) cs h all =
     let none = or_from (funds script_hash t) (spends script_hash cs t) all.0 (and_right (not (is_coinbase t)) (list_any (λ (x : TxIn). has_own script_hash cs x.from) t.inputs) (none_taken script_hash t.inputs cs h)) in
     (rw none rest.0, rest.1)
 
-pub chain_none : (script_hash : List ℕ) (height : ℕ) (chain : Chain) (cs : List Coin) → OwnNone script_hash cs → AllByRecursion (HasNone script_hash) chain
+pub chain_none : (script_hash : List ℕ) (height : ℕ) (chain : Chain) (cs : List Coin) → OwnNone script_hash cs → AllByRecursion (PaysNone script_hash) chain
     → listed_from script_hash height chain cs ≡ []
 chain_none script_hash height [] cs h all = refl
 chain_none script_hash height (b ∷ bs) cs h all =

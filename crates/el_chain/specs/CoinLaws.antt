@@ -67,5 +67,5 @@ pub record IsMadeIn (c : Coin) (ps : List Position) : Type 0 where
   pub kept : Untouched c.outpoint later
 
 -- no output of the block has the script hash
-abbrev pub HasNone : List ℕ → Placed → Type 0
-HasNone script_hash b = AllByRecursion (λ t. funds script_hash t ≡ false) b.block.txs
+abbrev pub PaysNone : List ℕ → Placed → Type 0
+PaysNone script_hash b = AllByRecursion (λ t. funds script_hash t ≡ false) b.block.txs

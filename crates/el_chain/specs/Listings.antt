@@ -9,8 +9,8 @@ use Rattle.el_chain.specs.Coins.{coins_after}
 use Rattle.el_chain.specs.History.{Position, positions_from, funds, spends, concerns, entry}
 
 -- the entry of a transaction at that height, before which these coins stand, if it concerns the script hash
-abbrev pub listed : List ℕ → ℕ → Tx → List Coin → List Entry
-listed script_hash height t coins =
+abbrev pub entry_listed : List ℕ → ℕ → Tx → List Coin → List Entry
+entry_listed script_hash height t coins =
     if funds script_hash t || spends script_hash coins t
     then record { height = height; txid = txid t } ∷ [] else []
 
@@ -18,7 +18,7 @@ listed script_hash height t coins =
 abbrev pub listed_in : List ℕ → ℕ → List Tx → List Coin → List Entry
 listed_in script_hash height [] coins = []
 listed_in script_hash height (t ∷ ts) coins =
-    listed script_hash height t coins ++ listed_in script_hash height ts (coins_after height t coins)
+    entry_listed script_hash height t coins ++ listed_in script_hash height ts (coins_after height t coins)
 
 -- the entries of positions whose transaction concerns the script hash
 abbrev pub entries_of : List ℕ → List Position → List Entry

@@ -31,12 +31,12 @@ abbrev pub concerned_scripts : Position → List Hash32
 concerned_scripts p = spent_scripts p.before (spending_inputs p.tx) ++ map output_script p.tx.outputs
 
 -- the script hash is among these
-abbrev pub has_script : Hash32 → List Hash32 → Bool
-has_script s scripts = list_any (λ (x : Hash32). bytes_eq x.0 s.0) scripts
+abbrev pub is_script_among : Hash32 → List Hash32 → Bool
+is_script_among s scripts = list_any (λ (x : Hash32). bytes_eq x.0 s.0) scripts
 
 -- the script hash goes after the others, unless it is among them
 abbrev pub add_script : Hash32 → List Hash32 → List Hash32
-add_script s scripts = if has_script s scripts then scripts else scripts ++ s ∷ []
+add_script s scripts = if is_script_among s scripts then scripts else scripts ++ s ∷ []
 
 -- these script hashes, and then those of the others that are new, each once
 abbrev pub add_scripts : List Hash32 → List Hash32 → List Hash32

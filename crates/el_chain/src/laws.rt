@@ -7,7 +7,7 @@ ghost use Rattle.el_chain.specs.declared.coin.Coin as coin_shape;
 ghost use Rattle.el_block.specs.Blocks.{block_hash};
 ghost use Rattle.el_chain.specs.Chains.{Chain};
 ghost use Rattle.el_chain.specs.Coins.{coins, coins_after, coins_after_all, supply};
-ghost use Rattle.el_chain.specs.CoinLaws.{GivesNoMore, AllGiveNoMore, IsIn, IsMadeIn, HasNone};
+ghost use Rattle.el_chain.specs.CoinLaws.{GivesNoMore, AllGiveNoMore, IsIn, IsMadeIn, PaysNone};
 ghost use Rattle.el_chain.specs.Faults.{IsGood};
 ghost use Rattle.el_chain.specs.declared.placed.Placed as shape;
 ghost use Rattle.el_chain.specs.History.{Position, funds, spends, concerns, entry, positions, history};
@@ -54,6 +54,6 @@ pub fn coins_are_made_and_kept()
 
 /// The history of a script hash that no output in the chain has is empty.
 pub fn unknown_has_no_history()
-    ensures { (chain : Chain) (script_hash : List ℕ) → AllByRecursion (HasNone script_hash) chain
+    ensures { (chain : Chain) (script_hash : List ℕ) → AllByRecursion (PaysNone script_hash) chain
         → history chain script_hash ≡ [] }
 {}

@@ -20,11 +20,11 @@ use Rattle.el_side.specs.Side.{Side, IsSure, Moving, OrdersLine, quiet_side}
 use Rattle.el_side.specs.declared.caches.Caches.{Caches}
 use Rattle.el_side.specs.declared.holdings.Holdings.{Holdings}
 use Rattle.el_side.specs.Caching.{CachesStand}
-use Rattle.el_sync.specs.Steps.{IsFrom, named, left_by}
+use Rattle.el_sync.specs.Steps.{IsFrom, previous_hash, left_by}
 use Rattle.el_sync.specs.declared.moving.Step.{Step}
 use Rattle.el_check_chain.specs.Checked.{no_room}
 use Rattle.el_check_chain.specs.Leading.{tip_line, moves_told, none, more, there, led}
-use Rattle.el_check_chain.specs.within.Ways.{StandWith, AreUnderWay, IsLed, is_tip}
+use Rattle.el_check_chain.specs.within.Ways.{StandForSide, AreUnderWay, IsLedToEnd, is_tip}
 
 -- a list that has none, and one that has some
 pub empty_left : (ns : List Node) → (length ns == 0) ≡ true → ns ≡ []
@@ -49,13 +49,13 @@ ends_elsewhere (Some last) h e is =
     cc
 
 -- the hash that a next block names
-pub names_tip : (chain : Chain) → named (tip_of chain) ≡ tip chain
+pub names_tip : (chain : Chain) → previous_hash (tip_of chain) ≡ tip chain
 names_tip [] = refl
 names_tip (b ∷ bs) = refl
 
 -- blocks that are linked to the ledger's tip are linked to the chain's
-pub linked_to : (t : Option Hash32) (chain : Chain) (ns : List Node) → t ≡ tip_of chain → AreLinked (named t) ns → AreLinked (tip chain) ns
-linked_to t chain ns is linked = subst (λ (h : Hash32). AreLinked h ns) (ap named is ∙ names_tip chain) linked
+pub linked_to : (t : Option Hash32) (chain : Chain) (ns : List Node) → t ≡ tip_of chain → AreLinked (previous_hash t) ns → AreLinked (tip chain) ns
+linked_to t chain ns is linked = subst (λ (h : Hash32). AreLinked h ns) (ap previous_hash is ∙ names_tip chain) linked
 
 counts_err : {S T : Type 0} (a b c : ℕ) (e : QueryFault) → b ≡ a → CountsOnly {T = S} b c fault.DiskFailed (Err e)
     → CountsOnly {T = T} a c fault.DiskFailed (Err e)
@@ -85,7 +85,7 @@ module _ {G A : Type 0} (of : Ghosts G A) where
 
   -- what stands after a step
   pub next_stands : (leads : NodeAnswer → List Deed → Side → Type 0) (was now : Beneath G A) (step : Step) (found : List Node) (h : Holdings) (k : Caches) (side : Side) (start : Chain)
-      → (l : Leads of leads side start (left_by was now step found h k)) → IsSure side → found ≡ h.tree → side.magic ≡ h.magic → StandWith of now h k step.left l.next
+      → (l : Leads of leads side start (left_by was now step found h k)) → IsSure side → found ≡ h.tree → side.magic ≡ h.magic → StandForSide of now h k step.left l.next
   next_stands leads was now step found h k side start l sure tree magic = record {
     sure = l.sure_is ∙ sure;
     start = l.next_start;
@@ -96,7 +96,7 @@ module _ {G A : Type 0} (of : Ghosts G A) where
   }
 
   -- no move was made yet
-  pub none_made : (was : Beneath G A) (h : Holdings) (k : Caches) (left : List Node) (side : Side) → StandWith of was h k left side → AreUnderWay of was was h k left side 0
+  pub none_made : (was : Beneath G A) (h : Holdings) (k : Caches) (left : List Node) (side : Side) → StandForSide of was h k left side → AreUnderWay of was was h k left side 0
   none_made was h k left side stand = record { last = side; moves = none; stand = stand; later = λ told. omega arith }
 
   -- one move more
@@ -114,19 +114,19 @@ module _ {G A : Type 0} (of : Ghosts G A) where
   }
 
   -- a line may be taken
-  pub line_from : (was : Beneath G A) (h : Holdings) (k : Caches) (side : Side) → StandWith of was h k [] side → IsFrom h side
+  pub line_from : (was : Beneath G A) (h : Holdings) (k : Caches) (side : Side) → StandForSide of was h k [] side → IsFrom h side
   line_from was h k side stand = record { found = stand.found; magic = stand.magic; still = stand.ahead }
 
   -- nothing is to be done
-  pub is_there : (was : Beneath G A) (h : Holdings) (k : Caches) (side : Side) (t : Hash32) → StandWith of was h k [] side → tip_of side.chain ≡ Some t → IsLed of was was h k side t 0
+  pub is_there : (was : Beneath G A) (h : Holdings) (k : Caches) (side : Side) (t : Hash32) → StandForSide of was h k [] side → tip_of side.chain ≡ Some t → IsLedToEnd of was was h k side t 0
   is_there was h k side t stand ends = record { last = side; leads = there ends refl refl; stand = stand; later = λ told. omega arith }
 
   -- a line and its later moves
   pub line_led : ((a : A) → of.files.faults a ≡ 0) → (side : Side) (t : Hash32) (start : Chain) (begin was now : Beneath G A) (h h' h'' : Holdings) (k' k'' : Caches) (step : Step) (later : ℕ)
       → IsSure side → side.magic ≡ h.magic → h'.magic ≡ h.magic → (tip_of side.chain ≡ Some t → ⊥)
       → Leads of (OrdersLine of.files side (line (tip_line t))) side start (left_by begin was step h'.tree h' k')
-      → ((mid : Side) → StandWith of was h' k' step.left mid → AreUnderWay of was now h'' k'' [] mid later)
-      → IsLed of begin now h'' k'' side t (moves_told step.answer + later)
+      → ((mid : Side) → StandForSide of was h' k' step.left mid → AreUnderWay of was now h'' k'' [] mid later)
+      → IsLedToEnd of begin now h'' k'' side t (moves_told step.answer + later)
   line_led never side t start begin was now h h' h'' k' k'' step later sure from magic away l on =
       let u = on l.next (next_stands (OrdersLine of.files side (line (tip_line t))) begin was step h'.tree h' k' side start l sure refl (from ∙ sym magic)) in
       record {
@@ -138,7 +138,7 @@ module _ {G A : Type 0} (of : Ghosts G A) where
 
   -- before the first line
   pub starts : (l : G) (a : A) (chain : Chain) (h : Holdings) (k : Caches) → of.ledger.stands l chain → CachesStand k chain chain → h.pool.entries ≡ [] → IsTableOf h.fees [] → h.pool.limits ≡ no_room
-      → StandWith of (beneath l a) h k [] (quiet_side true chain h.magic no_room h.tree (of.files.bytes a))
+      → StandForSide of (beneath l a) h k [] (quiet_side true chain h.magic no_room h.tree (of.files.bytes a))
   starts l a chain h k stood kept empty no_fees limits = record {
     sure = refl;
     start = chain;

@@ -7,9 +7,9 @@ ghost use Rattle.el_chain.specs.Records.{IsNode};
 ghost use Rattle.el_model.specs.LedgerCalls.{KeepsBeside};
 ghost use Rattle.el_side.specs.Beneath.{beneath, ghosts};
 ghost use Rattle.el_side.specs.Side.{Side};
-ghost use Rattle.el_sync.specs.Steps.{named};
+ghost use Rattle.el_sync.specs.Steps.{previous_hash};
 ghost use Rattle.el_check_chain.specs.Leading as leading;
-ghost use Rattle.el_check_chain.specs.within.Ways.{StandWith, AreUnderWay, IsLed, is_tip};
+ghost use Rattle.el_check_chain.specs.within.Ways.{StandForSide, AreUnderWay, IsLedToEnd, is_tip};
 
 use el_base::{Bytes, Hash32, OutOfMemory};
 use el_lines::{LineEvent, NodeAnswer};
@@ -67,11 +67,11 @@ fn move_on<W: Threads + Sync, G: Ledger, A: Archive>(
 ) -> Result<u64, QueryFault>
     requires live { G.is_live ledger.old }
     requires nodes { AllByRecursion IsNode left }
-    requires linked { AreLinked (named (G.tip ledger.old)) left }
+    requires linked { AreLinked (previous_hash (G.tip ledger.old)) left }
     requires never_fails { (a : A) → A.faults a ≡ 0 }
     ensures moved { let of = ghosts ⟦<G as Ledger>⟧ ⟦<A as Archive>⟧ in
         let was = beneath ledger.old archive.old in (side : Side)
-        → StandWith of was holdings.old caches.old left side → IfOk result
+        → StandForSide of was holdings.old caches.old left side → IfOk result
         (AreUnderWay of was (beneath ledger.new archive.new) holdings.new caches.new [] side) }
     ensures live { OnOk result (G.is_live ledger.new) }
     ensures few { IfOk result (λ n. n ≤ MOST_MOVES) }
@@ -108,8 +108,8 @@ pub fn lead<W: Threads + Sync, G: Ledger, A: Archive>(
     requires never_fails { (a : A) → A.faults a ≡ 0 }
     ensures led { let of = ghosts ⟦<G as Ledger>⟧ ⟦<A as Archive>⟧ in
         let was = beneath ledger.old archive.old in (side : Side)
-        → StandWith of was holdings.old caches.old [] side → IfOk result
-        (IsLed of was (beneath ledger.new archive.new) holdings.new caches.new side tip) }
+        → StandForSide of was holdings.old caches.old [] side → IfOk result
+        (IsLedToEnd of was (beneath ledger.new archive.new) holdings.new caches.new side tip) }
     ensures live { OnOk result (G.is_live ledger.new) }
     ensures few { IfOk result (λ n. n ≤ 1 + MOST_MOVES) }
     ensures beside { KeepsBeside ⟦<G as Ledger>⟧ ledger.old ledger.new }

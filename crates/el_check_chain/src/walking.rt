@@ -8,7 +8,7 @@ ghost use Rattle.el_model.specs.LedgerCalls.{Asked, KeepsBeside};
 ghost use Rattle.el_model.specs.Queries as asked;
 ghost use Rattle.el_side.specs.Beneath.{beneath, ghosts};
 ghost use Rattle.el_side.specs.Side.{Side};
-ghost use Rattle.el_check_chain.specs.within.Ways.{StandWith, HaveLed, HasWalked};
+ghost use Rattle.el_check_chain.specs.within.Ways.{StandForSide, HaveLed, HasWalked};
 
 use crate::headers::scanned_tree;
 use crate::leading::lead;
@@ -82,7 +82,7 @@ fn lead_all<W: Threads + Sync, G: Ledger, A: Archive>(
     requires never_fails { (a : A) → A.faults a ≡ 0 }
     ensures led { let of = ghosts ⟦<G as Ledger>⟧ ⟦<A as Archive>⟧ in
         let was = beneath ledger.old archive.old in (side : Side)
-        → StandWith of was holdings.old caches.old [] side → IfOk result
+        → StandForSide of was holdings.old caches.old [] side → IfOk result
         (HaveLed of was (beneath ledger.new archive.new) side tips) }
     ensures live { OnOk result (G.is_live ledger.new) }
     ensures beside { KeepsBeside ⟦<G as Ledger>⟧ ledger.old ledger.new }

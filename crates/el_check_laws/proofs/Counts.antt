@@ -10,7 +10,7 @@ use Rattle.el_chain.specs.declared.fault.ConnectFault.{ConnectFault}
 use Rattle.el_chain.specs.Coins.{coins_after, supply}
 use Rattle.el_chain.specs.Faults.{missing_fault, money_fault, full, full_fault, position_fault}
 use Rattle.el_chain.specs.History.{Position}
-use Rattle.el_chain.specs.RowCounts.{row_limit, spending_inputs, concerned_scripts, has_script, add_script, add_scripts, output_count, input_count, script_count, entry_count}
+use Rattle.el_chain.specs.RowCounts.{row_limit, spending_inputs, concerned_scripts, is_script_among, add_script, add_scripts, output_count, input_count, script_count, entry_count}
 
 -- The positions need so many rows of each table at most.
 pub record AreFew (k : ℕ) (ps : List Position) : Type 0 where
@@ -47,9 +47,9 @@ few_more k n ps p few one outs ins scripts = record {
 }
 
 one_script : (s : Hash32) (before : List Hash32) → length (add_script s before) ≤ length before + 1
-one_script s before = by (has_script s before) refl
+one_script s before = by (is_script_among s before) refl
   where
-    by : (b : Bool) → has_script s before ≡ b → length (add_script s before) ≤ length before + 1
+    by : (b : Bool) → is_script_among s before ≡ b → length (add_script s before) ≤ length before + 1
     by true e = rw e (omega arith)
     by false e = rw e (let both = length-append before (s ∷ []) in omega (arith, both))
 

@@ -6,7 +6,7 @@ use Rattle.el_tx.specs.declared.types.Tx.{Tx}
 use Rattle.el_block.specs.Blocks.{block_hash}
 use Rattle.el_block.specs.declared.block.Block.{Block}
 use Rattle.el_gen.specs.Generated.{coinbase, spend, block}
-use Rattle.el_gen.specs.MadeFile.{first_output, halves, made_txs, made_block, branch_blocks, last_hash, no_block, first_branch, left_out, fork, fork_hash, side_branch}
+use Rattle.el_gen.specs.MadeFile.{first_output, halves, made_txs, made_block, branch_blocks, last_block_hash, no_block, first_branch, left_out, fork, fork_hash, side_branch}
 
 -- the coinbase of a height
 abbrev pub coinbase_at : (ℕ → ℕ) → ℕ → Tx
@@ -67,13 +67,13 @@ length-branch previous before branch height (suc n) =
     ap suc (length-branch (block_hash (made_block previous before branch height).header) branch branch (height + 1) n)
 
 pub joined_made : (of : ℕ → ℕ) (previous : Hash32) (height : ℕ) (xs ys : List Block) → AreMade of previous height xs
-    → AreMade of (last_hash previous xs) (height + length xs) ys → AreMade of previous height (xs ++ ys)
+    → AreMade of (last_block_hash previous xs) (height + length xs) ys → AreMade of previous height (xs ++ ys)
 joined_made of previous height [] ys a b =
     subst (λ (k : ℕ). AreMade of previous k ys) (let e : height + 0 ≡ height = omega arith in e) b
 joined_made of previous height (x ∷ xs) ys a b = (
   a.0,
   joined_made of (block_hash x.header) (suc height) xs ys a.1
-      (subst (λ (k : ℕ). AreMade of (last_hash (block_hash x.header) xs) k ys) (let e : height + suc (length xs) ≡ suc height + length xs = omega arith in e) b),
+      (subst (λ (k : ℕ). AreMade of (last_block_hash (block_hash x.header) xs) k ys) (let e : height + suc (length xs) ≡ suc height + length xs = omega arith in e) b),
 )
 
 -- ---- both branches

@@ -18,8 +18,8 @@ use Rattle.el_chain.proofs.TouchLemmas.{hash_gives, hash_from}
 use Rattle.el_chain.proofs.CoinLists.{differs}
 use Rattle.el_headers.proofs.Growing.{added_new}
 use Rattle.el_headers.proofs.Paths.{member_at}
-use Rattle.el_gen.specs.MadeFile.{last_hash, no_block}
-use Rattle.el_check_laws.specs.Differing.{hashes_of}
+use Rattle.el_gen.specs.MadeFile.{last_block_hash, no_block}
+use Rattle.el_check_laws.specs.Differing.{hashes_of_blocks}
 use Rattle.el_check_laws.specs.MadeNodes.{AreNodesOf}
 use Rattle.el_check_laws.proofs.Apart.{differ_parted}
 use Rattle.el_check_laws.proofs.CoinParts.{and_false}
@@ -29,7 +29,7 @@ use Rattle.el_check_laws.proofs.OnePath.{HaveDifferent}
 abbrev pub node_hashes : List Node → List Hash32
 node_hashes ns = map (λ (n : Node). n.hash) ns
 
-pub nodes_hashes : (bytes : List ℕ) (bs : List Block) (ns : List Node) → AreNodesOf bytes bs ns → node_hashes ns ≡ hashes_of bs
+pub nodes_hashes : (bytes : List ℕ) (bs : List Block) (ns : List Node) → AreNodesOf bytes bs ns → node_hashes ns ≡ hashes_of_blocks bs
 nodes_hashes bytes [] [] are = refl
 nodes_hashes bytes (b ∷ bs) (n ∷ ns) are =
     ap (λ (h : Hash32). h ∷ node_hashes ns) are.0.hash ∙ ap (λ (hs : List Hash32). block_hash b.header ∷ hs) (nodes_hashes bytes bs ns are.1)
@@ -53,7 +53,7 @@ nodes_linked bytes of previous height [] (n ∷ ns) made are = absurd are
 nodes_linked bytes of previous height (b ∷ bs) [] made are = absurd are
 
 pub last_is : (bytes : List ℕ) (previous : Hash32) (bs : List Block) (g : Node) (rest : List Node) → AreNodesOf bytes bs (g ∷ rest)
-    → (last_node g rest).hash ≡ last_hash previous bs
+    → (last_node g rest).hash ≡ last_block_hash previous bs
 last_is bytes previous [] g rest are = absurd are
 last_is bytes previous (b ∷ []) g [] are = are.0.hash
 last_is bytes previous (b ∷ []) g (n ∷ rest) are = absurd are.1
@@ -141,15 +141,15 @@ all_inside front (x ∷ xs) back = (
 
 -- the first of them names no block before it, and each other does
 pub made_named : (bytes : List ℕ) (of : ℕ → ℕ) (bs : List Block) (g : Node) (rest : List Node) → AreMade of no_block 0 bs → AreNodesOf bytes bs (g ∷ rest)
-    → AllByRecursion (λ (h : Hash32). zero_hash ≢ h) (hashes_of bs) → (names_none g ≡ true) × AllByRecursion NamesSome rest
+    → AllByRecursion (λ (h : Hash32). zero_hash ≢ h) (hashes_of_blocks bs) → (names_none g ≡ true) × AllByRecursion NamesSome rest
 made_named bytes of bs g rest made are some =
     let linked = nodes_linked bytes of no_block 0 bs (g ∷ rest) made are in
     let hashes = subst (AllByRecursion (λ (h : Hash32). zero_hash ≢ h)) (sym (nodes_hashes bytes bs (g ∷ rest) are)) some in
     (hash_from g.header.previous zero_hash linked.0, later_all g.hash rest linked.1 hashes.0 hashes.1)
 
 pub made_path : (bytes : List ℕ) (of : ℕ → ℕ) (bs : List Block) (g : Node) (rest found : List Node) → AreMade of no_block 0 bs → AreNodesOf bytes bs (g ∷ rest)
-    → AllByRecursion (λ (h : Hash32). zero_hash ≢ h) (hashes_of bs) → genesis found ≡ Some g → AllByRecursion (Contains found) rest
-    → IsPath found (last_hash no_block bs) (g ∷ rest)
+    → AllByRecursion (λ (h : Hash32). zero_hash ≢ h) (hashes_of_blocks bs) → genesis found ≡ Some g → AllByRecursion (Contains found) rest
+    → IsPath found (last_block_hash no_block bs) (g ∷ rest)
 made_path bytes of bs g rest found made are some begins inside =
     let linked = nodes_linked bytes of no_block 0 bs (g ∷ rest) made are in
     let named = made_named bytes of bs g rest made are some in

@@ -13,7 +13,7 @@ use Rattle.el_chain.specs.declared.node.Node.{Node}
 use Rattle.el_chain.specs.Headers.{added, names_none, genesis, IsPath}
 use Rattle.el_gen.specs.MadeFile.{no_block, made_file, branch_blocks, first_branch, left_out, fork, fork_hash, side_branch, first_tip, side_tip}
 use Rattle.el_gen.proofs.Branches.{first_parted, last_joined}
-use Rattle.el_check_laws.specs.Differing.{HashesDiffer, hashes_of}
+use Rattle.el_check_laws.specs.Differing.{HashesDiffer, hashes_of_blocks}
 use Rattle.el_check_laws.specs.MadeNodes.{AreNodesOf, BeginAsMade, LeadsAlone}
 use Rattle.el_check_laws.proofs.Apart.{all_parted}
 use Rattle.el_check_laws.proofs.MadeChains.{first_of, side_of, first_made, side_made}
@@ -24,7 +24,7 @@ use Rattle.el_check_laws.proofs.BothBranches.{side_chain, fork_within, length-fi
 abbrev pub AreSome : List Hash32 → Type 0
 AreSome hashes = AllByRecursion (λ (h : Hash32). zero_hash ≢ h) hashes
 
-pub hashes_joined : (xs ys : List Block) → hashes_of (xs ++ ys) ≡ hashes_of xs ++ hashes_of ys
+pub hashes_joined : (xs ys : List Block) → hashes_of_blocks (xs ++ ys) ≡ hashes_of_blocks xs ++ hashes_of_blocks ys
 hashes_joined xs ys = map-append (λ (b : Block). block_hash b.header) xs ys
 
 -- the first branch's own blocks, behind those that both branches have
@@ -34,18 +34,18 @@ own_blocks count = branch_blocks (fork_hash count) 0 0 (fork count) (left_out co
 pub first_cut : (count : ℕ) → 1 ≤ count → first_branch count ≡ first_branch (fork count) ++ own_blocks count
 first_cut count some = first_parted count (left_out count) (omega arith)
 
-all_some : (count : ℕ) → HashesDiffer count → AreSome (hashes_of (first_branch count)) × AreSome (hashes_of (side_branch count))
+all_some : (count : ℕ) → HashesDiffer count → AreSome (hashes_of_blocks (first_branch count)) × AreSome (hashes_of_blocks (side_branch count))
 all_some count differ =
-    all_parted (λ (h : Hash32). zero_hash ≢ h) (hashes_of (first_branch count)) (hashes_of (side_branch count))
+    all_parted (λ (h : Hash32). zero_hash ≢ h) (hashes_of_blocks (first_branch count)) (hashes_of_blocks (side_branch count))
     (subst AreSome (hashes_joined (first_branch count) (side_branch count)) differ.blocks.0)
 
-chain_some : (count : ℕ) → 1 ≤ count → HashesDiffer count → AreSome (hashes_of (side_chain count))
+chain_some : (count : ℕ) → 1 ≤ count → HashesDiffer count → AreSome (hashes_of_blocks (side_chain count))
 chain_some count some differ =
     let all = all_some count differ in
-    let front = (all_parted (λ (h : Hash32). zero_hash ≢ h) (hashes_of (first_branch (fork count))) (hashes_of (own_blocks count))
-    (subst AreSome (ap hashes_of (first_cut count some) ∙ hashes_joined (first_branch (fork count)) (own_blocks count)) all.0)).0 in
+    let front = (all_parted (λ (h : Hash32). zero_hash ≢ h) (hashes_of_blocks (first_branch (fork count))) (hashes_of_blocks (own_blocks count))
+    (subst AreSome (ap hashes_of_blocks (first_cut count some) ∙ hashes_joined (first_branch (fork count)) (own_blocks count)) all.0)).0 in
     subst AreSome (sym (hashes_joined (first_branch (fork count)) (side_branch count)))
-    (all_append (λ (h : Hash32). zero_hash ≢ h) (hashes_of (first_branch (fork count))) (hashes_of (side_branch count)) front all.1)
+    (all_append (λ (h : Hash32). zero_hash ≢ h) (hashes_of_blocks (first_branch (fork count))) (hashes_of_blocks (side_branch count)) front all.1)
 
 -- the nodes of the side branch's chain
 pub side_nodes : (count : ℕ) (first side : List Node) → 1 ≤ count → AreNodesOf (made_file count) (first_branch count) first
@@ -91,7 +91,7 @@ module _ (count : ℕ) (some : 1 ≤ count) (differ : HashesDiffer count) (g : N
   differ_all =
       subst AllDiffer (sym (map-append (λ (n : Node). n.hash) (g ∷ rest) side
       ∙ ap (λ (hs : List Hash32). hs ++ node_hashes side) (nodes_hashes (made_file count) (first_branch count) (g ∷ rest) are)
-      ∙ ap (λ (hs : List Hash32). hashes_of (first_branch count) ++ hs) (nodes_hashes (made_file count) (side_branch count) side side_are)
+      ∙ ap (λ (hs : List Hash32). hashes_of_blocks (first_branch count) ++ hs) (nodes_hashes (made_file count) (side_branch count) side side_are)
       ∙ sym (hashes_joined (first_branch count) (side_branch count)))) differ.blocks.1
 
   added_first : found ≡ fold added (g ∷ (rest ++ side)) others

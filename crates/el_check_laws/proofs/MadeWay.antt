@@ -10,13 +10,13 @@ use Rattle.el_chain.specs.declared.node.Node.{Node}
 use Rattle.el_chain.specs.Chains.{Chain, tip_after, zero_hash}
 use Rattle.el_chain.specs.Headers.{added}
 use Rattle.el_chain.specs.Moves.{shorter}
-use Rattle.el_gen.specs.MadeFile.{no_block, made_file, last_hash, first_branch, left_out, fork, fork_hash, side_branch, first_tip, side_tip, regtest_magic}
+use Rattle.el_gen.specs.MadeFile.{no_block, made_file, last_block_hash, first_branch, left_out, fork, fork_hash, side_branch, first_tip, side_tip, regtest_magic}
 use Rattle.el_gen.proofs.Branches.{last_joined}
 use Rattle.el_model.specs.Queries.{tip_of}
 use Rattle.el_side.specs.Side.{Side, quiet_side}
 use Rattle.el_side.specs.Plans.{common, back_of}
 use Rattle.el_check_chain.specs.Checked.{Way, made_files, no_room, steady, summary_at_end}
-use Rattle.el_check_laws.specs.Differing.{HashesDiffer, blocks_of, hashes_of}
+use Rattle.el_check_laws.specs.Differing.{HashesDiffer, blocks_of, hashes_of_blocks}
 use Rattle.el_check_laws.specs.MadeNodes.{AreNodesOf, BeginAsMade, LeadsAlone}
 use Rattle.el_check_laws.specs.Numbers.{numbers}
 use Rattle.el_check_laws.proofs.Apart.{IsNone, all_parted, differ_parted}
@@ -36,7 +36,7 @@ use Rattle.el_check_laws.proofs.MadeSums.{sums_are}
 -- ---- a chain and a path that begin alike
 
 module _ (bytes : List ℕ) (front bs cs : List Block) (fs ns ms : List Node) (side : Side) (front_are : AreNodesOf bytes front fs) (own_are : AreNodesOf bytes bs ns)
-    (others_are : AreNodesOf bytes cs ms) (apart : AllByRecursion (IsNone (hashes_of cs)) (hashes_of bs)) (is : side.chain ≡ placed_of (front ++ bs) (fs ++ ns)) where
+    (others_are : AreNodesOf bytes cs ms) (apart : AllByRecursion (IsNone (hashes_of_blocks cs)) (hashes_of_blocks bs)) (is : side.chain ≡ placed_of (front ++ bs) (fs ++ ns)) where
   chain_cut : side.chain ≡ placed_of front fs ++ placed_of bs ns
   chain_cut = is ∙ placed_joined bytes front bs fs ns front_are
 
@@ -82,12 +82,12 @@ some_tip (b ∷ bs) some = refl
 
 -- a chain with this tip has no other
 ends_elsewhere : (bytes : List ℕ) (bs : List Block) (ns : List Node) (chain : Chain) (h : Hash32) → AreNodesOf bytes bs ns → 1 ≤ length bs
-    → chain ≡ placed_of bs ns → last_hash no_block bs ≢ h → tip_of chain ≢ Some h
+    → chain ≡ placed_of bs ns → last_block_hash no_block bs ≢ h → tip_of chain ≢ Some h
 ends_elsewhere bytes bs ns chain h are some is other there =
     let long = ap length is ∙ placed_long bytes bs ns are in
-    let own : tip_of chain ≡ Some (last_hash no_block bs) =
+    let own : tip_of chain ≡ Some (last_block_hash no_block bs) =
     some_tip chain (omega (arith, long, some)) ∙ ap (λ (c : Chain). Some (tip_after zero_hash c)) is ∙ ap Some (placed_tip bytes zero_hash bs ns are) in
-    let same : Some (last_hash no_block bs) ≡ Some h = sym own ∙ there in
+    let same : Some (last_block_hash no_block bs) ≡ Some h = sym own ∙ there in
     other cc
 
 -- ---- the three lines
@@ -137,16 +137,16 @@ module _ (says_one : SayOne) (count : ℕ) (some : 1 ≤ count) (few : count ≤
   side_long = length-branch (fork_hash count) 0 1 (fork count) (left_out count + 1)
 
   -- the hashes of the two branches differ
-  branches_apart : AllByRecursion (IsNone (hashes_of side_own)) (hashes_of (first_branch count))
-  branches_apart = (differ_parted (hashes_of (first_branch count)) (hashes_of side_own) (subst AllDiffer (hashes_joined (first_branch count) side_own) differ.blocks.1)).both
+  branches_apart : AllByRecursion (IsNone (hashes_of_blocks side_own)) (hashes_of_blocks (first_branch count))
+  branches_apart = (differ_parted (hashes_of_blocks (first_branch count)) (hashes_of_blocks side_own) (subst AllDiffer (hashes_joined (first_branch count) side_own) differ.blocks.1)).both
 
-  own_apart : AllByRecursion (IsNone (hashes_of side_own)) (hashes_of own)
-  own_apart = (all_parted (IsNone (hashes_of side_own)) (hashes_of front) (hashes_of own)
-      (subst (AllByRecursion (IsNone (hashes_of side_own))) (ap hashes_of (first_cut count some) ∙ hashes_joined front own) branches_apart)).1
+  own_apart : AllByRecursion (IsNone (hashes_of_blocks side_own)) (hashes_of_blocks own)
+  own_apart = (all_parted (IsNone (hashes_of_blocks side_own)) (hashes_of_blocks front) (hashes_of_blocks own)
+      (subst (AllByRecursion (IsNone (hashes_of_blocks side_own))) (ap hashes_of_blocks (first_cut count some) ∙ hashes_joined front own) branches_apart)).1
 
   tips_differ : first_tip count ≢ side_tip count
   tips_differ = last_of_some (λ (h : Hash32). first_tip count ≢ h) (fork_hash count) side_own (let long = side_long in omega (arith, long))
-      (last_of_some (IsNone (hashes_of side_own)) no_block (first_branch count) (let long = length-first count in omega (arith, long, some)) branches_apart)
+      (last_of_some (IsNone (hashes_of_blocks side_own)) no_block (first_branch count) (let long = length-first count in omega (arith, long, some)) branches_apart)
 
   first_path : IsMadePath file first_of count (front ++ own) (front_nodes ++ own_nodes)
   first_path = record {
@@ -220,9 +220,9 @@ module _ (says_one : SayOne) (count : ℕ) (some : 1 ≤ count) (few : count ≤
   two = line_leads file (side_of (fork count)) (count + 1) (front ++ side_own) (front_nodes ++ begin.side) side_path side_same says_one way.first (side_tip count) side_is_hash
       (subst (λ (ns : List Node). LeadsAlone ns (side_tip count) (front_nodes ++ begin.side)) (sym one.found) side_alone) first_departs one.sure one.grows way.to_side way.side
       (ends_elsewhere file (front ++ own) (front_nodes ++ own_nodes) way.first.chain (side_tip count) first_are (let long = first_long in omega (arith, long, some)) one.chain
-      (λ e. tips_differ (ap (last_hash no_block) (first_cut count some) ∙ e))) way.leads_side
+      (λ e. tips_differ (ap (last_block_hash no_block) (first_cut count some) ∙ e))) way.leads_side
 
-  side_tip_is : last_hash no_block (front ++ side_own) ≡ side_tip count
+  side_tip_is : last_block_hash no_block (front ++ side_own) ≡ side_tip count
   side_tip_is = last_joined no_block front side_own
 
   side_departs : Departs (front ++ own) (front_nodes ++ own_nodes) way.side
@@ -230,7 +230,7 @@ module _ (says_one : SayOne) (count : ℕ) (some : 1 ≤ count) (few : count ≤
       let short = own_long in
       let long = side_long in
       departs file front side_own own front_nodes begin.side own_nodes way.side front_are begin.side_are own_are
-      (none_turned (hashes_of own) (hashes_of side_own) own_apart) two.chain (omega (arith, long)) (omega (arith, long))
+      (none_turned (hashes_of_blocks own) (hashes_of_blocks side_own) own_apart) two.chain (omega (arith, long)) (omega (arith, long))
 
   three : Led file (front ++ own) (front_nodes ++ own_nodes) way.side way.last way.back
   three = line_leads file first_of count (front ++ own) (front_nodes ++ own_nodes) first_path first_same says_one way.side (first_tip count) first_is_hash
@@ -270,7 +270,7 @@ module _ (says_one : SayOne) (count : ℕ) (some : 1 ≤ count) (few : count ≤
       let all = first_long in
       let is = three.count in
       let shared = common_is file front side_own own front_nodes begin.side own_nodes way.side front_are begin.side_are own_are
-      (none_turned (hashes_of own) (hashes_of side_own) own_apart) two.chain in
+      (none_turned (hashes_of_blocks own) (hashes_of_blocks side_own) own_apart) two.chain in
       let at = length-first (fork count) in
       let within = (fork_within count some).2 in
       ⊎_elim (λ none. omega (arith, is, none)) (λ least. omega (arith, is, long, all, shared, at, within, least)) three.least

@@ -10,9 +10,9 @@ use Rattle.el_chain.specs.Chains.{Chain, tip_after}
 use Rattle.el_chain.specs.Headers.{same_hash}
 use Rattle.el_chain.proofs.CoinLists.{differs}
 use Rattle.el_chain.proofs.TouchLemmas.{hash_gives, hash_from}
-use Rattle.el_gen.specs.MadeFile.{last_hash}
+use Rattle.el_gen.specs.MadeFile.{last_block_hash}
 use Rattle.el_side.specs.Plans.{common, common_up_to}
-use Rattle.el_check_laws.specs.Differing.{blocks_of, hashes_of}
+use Rattle.el_check_laws.specs.Differing.{blocks_of, hashes_of_blocks}
 use Rattle.el_check_laws.specs.MadeNodes.{AreNodesOf}
 use Rattle.el_check_laws.proofs.Apart.{IsNone}
 use Rattle.el_check_laws.proofs.MadeBlocks.{IsHash, hash_is_hash}
@@ -69,18 +69,18 @@ nodes_dropped bytes (suc k) [] (n ∷ ns) are = absurd are
 nodes_dropped bytes (suc k) (b ∷ bs) [] are = absurd are
 nodes_dropped bytes (suc k) (b ∷ bs) (n ∷ ns) are = nodes_dropped bytes k bs ns are.1
 
-pub placed_tip : (bytes : List ℕ) (before : Hash32) (bs : List Block) (ns : List Node) → AreNodesOf bytes bs ns → tip_after before (placed_of bs ns) ≡ last_hash before bs
+pub placed_tip : (bytes : List ℕ) (before : Hash32) (bs : List Block) (ns : List Node) → AreNodesOf bytes bs ns → tip_after before (placed_of bs ns) ≡ last_block_hash before bs
 placed_tip bytes before [] ns are = refl
 placed_tip bytes before (b ∷ bs) [] are = absurd are
 placed_tip bytes before (b ∷ bs) (n ∷ ns) are = placed_tip bytes (block_hash b.header) bs ns are.1
 
 -- what holds of all hashes holds of the last
-pub last_of_some : (P : Hash32 → Type 0) (before : Hash32) (bs : List Block) → 1 ≤ length bs → AllByRecursion P (hashes_of bs) → P (last_hash before bs)
+pub last_of_some : (P : Hash32 → Type 0) (before : Hash32) (bs : List Block) → 1 ≤ length bs → AllByRecursion P (hashes_of_blocks bs) → P (last_block_hash before bs)
 last_of_some P before [] some all = absurd (omega arith)
 last_of_some P before (b ∷ []) some all = all.0
 last_of_some P before (b ∷ c ∷ bs) some all = last_of_some P (block_hash b.header) (c ∷ bs) (omega arith) all.1
 
-pub all_hashes : (bs : List Block) → AllByRecursion IsHash (hashes_of bs)
+pub all_hashes : (bs : List Block) → AllByRecursion IsHash (hashes_of_blocks bs)
 all_hashes [] = tt
 all_hashes (b ∷ bs) = (hash_is_hash b.header, all_hashes bs)
 
@@ -106,7 +106,7 @@ all_rest y ys (x ∷ xs) all = (all.0.1, all_rest y ys xs all.1)
 
 -- nothing is common where no hash is
 nothing_common : (bytes : List ℕ) (bs cs : List Block) (ns ms : List Node) → AreNodesOf bytes bs ns → AreNodesOf bytes cs ms
-    → AllByRecursion (IsNone (hashes_of cs)) (hashes_of bs) → common (placed_of bs ns) ms ≡ 0
+    → AllByRecursion (IsNone (hashes_of_blocks cs)) (hashes_of_blocks bs) → common (placed_of bs ns) ms ≡ 0
 nothing_common bytes [] cs ns ms are others apart = refl
 nothing_common bytes (b ∷ bs) cs [] ms are others apart = absurd are
 nothing_common bytes (b ∷ bs) cs (n ∷ ns) [] are others apart = refl
@@ -114,12 +114,12 @@ nothing_common bytes (b ∷ bs) [] (n ∷ ns) (m ∷ ms) are others apart = absu
 nothing_common bytes (b ∷ bs) (c ∷ cs) (n ∷ ns) (m ∷ ms) are others apart =
     let here : same_hash (block_hash b.header) m.hash ≡ false =
     differs (same_hash (block_hash b.header) m.hash) (λ e. apart.0.0 (hash_gives (block_hash b.header) m.hash e ∙ others.0.hash)) in
-    let rest = nothing_common bytes bs cs ns ms are.1 others.1 (all_rest (block_hash c.header) (hashes_of cs) (hashes_of bs) apart.1) in
+    let rest = nothing_common bytes bs cs ns ms are.1 others.1 (all_rest (block_hash c.header) (hashes_of_blocks cs) (hashes_of_blocks bs) apart.1) in
     rw (here, rest) refl
 
 -- what both begin with is common, and no more
 pub common_front : (bytes : List ℕ) (front bs cs : List Block) (fs ns ms : List Node) → AreNodesOf bytes front fs → AreNodesOf bytes bs ns → AreNodesOf bytes cs ms
-    → AllByRecursion (IsNone (hashes_of cs)) (hashes_of bs) → common (placed_of front fs ++ placed_of bs ns) (fs ++ ms) ≡ length front
+    → AllByRecursion (IsNone (hashes_of_blocks cs)) (hashes_of_blocks bs) → common (placed_of front fs ++ placed_of bs ns) (fs ++ ms) ≡ length front
 common_front bytes [] bs cs [] ns ms are own others apart = nothing_common bytes bs cs ns ms own others apart
 common_front bytes [] bs cs (f ∷ fs) ns ms are own others apart = absurd are
 common_front bytes (b ∷ front) bs cs [] ns ms are own others apart = absurd are

@@ -14,8 +14,8 @@ abbrev pub blocks_of : Chain → List Block
 blocks_of chain = map (λ (b : Placed). b.block) chain
 
 -- the hashes of blocks
-abbrev pub hashes_of : List Block → List Hash32
-hashes_of blocks = map (λ (b : Block). block_hash b.header) blocks
+abbrev pub hashes_of_blocks : List Block → List Hash32
+hashes_of_blocks blocks = map (λ (b : Block). block_hash b.header) blocks
 
 -- the txids of all transactions of blocks, in their order
 abbrev pub txids_of : List Block → List Hash32
@@ -25,7 +25,7 @@ txids_of blocks = flat_map (λ (b : Block). txids b.txs) blocks
 -- the txids of a branch differ, and so do those of the side branch's chain from its genesis on; and the
 -- script of 100 has another script hash than the other scripts, which are those of 0 to 99 and of 101.
 pub record HashesDiffer (count : ℕ) : Type 0 where
-  pub blocks : AllDiffer (zero_hash ∷ hashes_of (first_branch count ++ side_branch count))
+  pub blocks : AllDiffer (zero_hash ∷ hashes_of_blocks (first_branch count ++ side_branch count))
   pub first_txs : AllDiffer (txids_of (first_branch count))
   pub side_txs : AllDiffer (txids_of (first_branch (fork count) ++ side_branch count))
   pub scripts : (k : ℕ) → k ≤ 101 → k ≢ 100 → sha256 (locking_script k) ≢ sha256 (locking_script 100)

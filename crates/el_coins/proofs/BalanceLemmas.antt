@@ -11,7 +11,7 @@ use Rattle.el_tx.specs.Hashing.{same_outpoint}
 use Rattle.el_chain.specs.declared.coin.Coin.{Coin}
 use Rattle.el_chain.specs.Coins.{supply}
 use Rattle.el_chain.specs.CoinLists.{coin_in, AreOnce}
-use Rattle.el_coins.specs.CoinTables.{StandsFor}
+use Rattle.el_coins.specs.CoinTables.{CoinsStandFor}
 use Rattle.el_coins.specs.within.Balances.{own_value, own_values}
 use Rattle.el_chain.proofs.CoinLists.{same_gives, same_self}
 
@@ -109,7 +109,7 @@ no_more s (c ∷ cs) = by (no_more s cs) (bytes_eq c.script.0 s) refl
     by rest false e = rw e (omega (arith, rest))
 
 pub within : (s : List ℕ) (sum : ℕ) (es : Entries) → IsDistinct same_outpoint (places es) → sum ≤ max_money
-    → (coins : List Coin) × StandsFor (look es) sum coins → own_values s (vals es) ≤ max_money
+    → (coins : List Coin) × CoinsStandFor (look es) sum coins → own_values s (vals es) ≤ max_money
 within s sum es distinct money (coins, h) =
     let is = held s coins es h.once distinct h.each in
     let less = no_more s coins in

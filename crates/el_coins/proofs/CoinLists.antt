@@ -9,7 +9,7 @@ use Rattle.el_tx.specs.Hashing.{same_outpoint}
 use Rattle.el_chain.specs.declared.coin.Coin.{Coin}
 use Rattle.el_chain.specs.Coins.{without, add_coin}
 use Rattle.el_chain.specs.Faults.{has_coin}
-use Rattle.el_coins.specs.CoinTables.{coin_by, coin_over, StandsFor}
+use Rattle.el_coins.specs.CoinTables.{coin_by, coin_over, CoinsStandFor}
 use Rattle.el_chain.specs.CoinLists.{coin_in, value_in}
 use Rattle.el_chain.proofs.CoinLists.{in_without, in_put, once_without, once_put, without_none, supply_without, supply_put, outpoints_equal}
 
@@ -22,7 +22,7 @@ there o (c ∷ cs) = elim (cases_Bool (same_outpoint c.outpoint o)) [
 ]
 
 -- an outpoint's coin holds no more than all
-pub value_within : (look : Outpoint → Option Coin) (sum : ℕ) (coins : List Coin) (o : Outpoint) → StandsFor look sum coins → value_in (look o) ≤ sum
+pub value_within : (look : Outpoint → Option Coin) (sum : ℕ) (coins : List Coin) (o : Outpoint) → CoinsStandFor look sum coins → value_in (look o) ≤ sum
 value_within look sum coins o h =
     let is = ap value_in (h.each o) in
     let out = supply_without o coins h.once in
@@ -30,8 +30,8 @@ value_within look sum coins o h =
     omega arith
 
 -- what stands for coins stands for those without one, or with one more, once its look-ups and its sum are changed so
-pub taken : (look new : Outpoint → Option Coin) (sum sum_new : ℕ) (coins : List Coin) (p : Outpoint) → StandsFor look sum coins
-    → ((o : Outpoint) → new o ≡ cond (same_outpoint p o) None (look o)) → sum_new + value_in (look p) ≡ sum → StandsFor new sum_new (without p coins)
+pub taken : (look new : Outpoint → Option Coin) (sum sum_new : ℕ) (coins : List Coin) (p : Outpoint) → CoinsStandFor look sum coins
+    → ((o : Outpoint) → new o ≡ cond (same_outpoint p o) None (look o)) → sum_new + value_in (look p) ≡ sum → CoinsStandFor new sum_new (without p coins)
 taken look new sum sum_new coins p h says total = record {
   each = λ o. says o ∙ ap (cond (same_outpoint p o) None) (h.each o) ∙ sym (in_without p coins o);
   total =
@@ -42,9 +42,9 @@ taken look new sum sum_new coins p h says total = record {
   once = once_without p coins h.once;
 }
 
-pub made : (look new : Outpoint → Option Coin) (sum sum_new : ℕ) (coins : List Coin) (c : Coin) → StandsFor look sum coins
+pub made : (look new : Outpoint → Option Coin) (sum sum_new : ℕ) (coins : List Coin) (c : Coin) → CoinsStandFor look sum coins
     → ((o : Outpoint) → new o ≡ cond (same_outpoint c.outpoint o) (Some c) (look o)) → sum_new + value_in (look c.outpoint) ≡ sum + c.value
-    → StandsFor new sum_new (add_coin c coins)
+    → CoinsStandFor new sum_new (add_coin c coins)
 made look new sum sum_new coins c h says total = record {
   each = λ o. says o ∙ ap (cond (same_outpoint c.outpoint o) (Some c)) (h.each o) ∙ sym (in_put c coins o);
   total =
@@ -56,12 +56,12 @@ made look new sum sum_new coins c h says total = record {
 }
 
 -- where an outpoint has no coin, nothing is taken
-pub taken_none : (look : Outpoint → Option Coin) (sum : ℕ) (coins : List Coin) (p : Outpoint) → StandsFor look sum coins → look p ≡ None
-    → StandsFor look sum (without p coins)
+pub taken_none : (look : Outpoint → Option Coin) (sum : ℕ) (coins : List Coin) (p : Outpoint) → CoinsStandFor look sum coins → look p ≡ None
+    → CoinsStandFor look sum (without p coins)
 taken_none look sum coins p h none = rw (without_none p coins (sym (h.each p) ∙ none)) h
 
 -- what a look-up's answer says of the coins
-pub there_by : (look : Outpoint → Option Coin) (sum : ℕ) (coins : List Coin) (o : Outpoint) (found : Option Coin) (b : Bool) → StandsFor look sum coins
+pub there_by : (look : Outpoint → Option Coin) (sum : ℕ) (coins : List Coin) (o : Outpoint) (found : Option Coin) (b : Bool) → CoinsStandFor look sum coins
     → found ≡ look o → is_some found ≡ b → b ≡ has_coin o coins
 there_by look sum coins o found b h is some = sym some ∙ ap is_some (is ∙ h.each o) ∙ sym (there o coins)
 

@@ -19,7 +19,7 @@ use Rattle.el_chain.specs.History.{positions, block_positions}
 use Rattle.el_coins.specs.declared.tally.Tally.{Tally}
 use Rattle.el_coins.specs.Tallies.{IsTally, AreFew}
 use Rattle.el_chain.proofs.Tallies.{positions_more}
-use Rattle.el_coins.specs.CoinTables.{lookup, coin_by, coin_over, StandsFor, HasFitting}
+use Rattle.el_coins.specs.CoinTables.{lookup, coin_by, coin_over, CoinsStandFor, HasFitting}
 use Rattle.el_coins.specs.CoinLayers.{Holds, IsPlainChain}
 use Rattle.el_block.proofs.BlockLemmas.{one_some}
 use Rattle.el_chain.proofs.GoodChains.{fits_of_encoded, next_more, coins_more, has_room}
@@ -32,7 +32,7 @@ chain_fits before (b ∷ bs) h = (fits_of_encoded b.block h.0.encoded, chain_fit
 -- what is kept goes on with one block more
 pub kept_more : (chain : Chain) (b : Placed) (kept new : CoinTable) (tally counted : Tally) → IsPlainChain chain kept tally → HasBlockEncoding b.block → b.block.header.previous ≡ tip chain
     → fault chain b.block ≡ None → new.supply ≤ max_money
-    → StandsFor (coin_by new.map) new.supply (coins_after_all (length chain) b.block.txs (coins chain))
+    → CoinsStandFor (coin_by new.map) new.supply (coins_after_all (length chain) b.block.txs (coins chain))
     → IsTally counted (positions chain ++ block_positions (length chain) b.block.txs (coins chain)) → AreFew counted → IsPlainChain (chain ++ b ∷ []) new counted
 kept_more chain b kept new tally counted h encoded names none money stands counts rows = record {
   good = record { each = next_more [] chain b h.good.each (record { encoded = encoded; names = names; faultless = none }) };

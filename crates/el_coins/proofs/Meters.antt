@@ -21,7 +21,7 @@ use Rattle.el_chain.specs.declared.coin.Coin.{Coin}
 use Rattle.el_coins.specs.declared.meter.Meter.{Meter}
 use Rattle.el_chain.specs.Chains.{Chain}
 use Rattle.el_chain.specs.Coins.{is_coin_of, without, add_coin, coins_after, coins_after_all, coins_from, coins}
-use Rattle.el_chain.specs.RowCounts.{spent_scripts, output_script, has_script, add_script, add_scripts}
+use Rattle.el_chain.specs.RowCounts.{spent_scripts, output_script, is_script_among, add_script, add_scripts}
 use Rattle.el_chain.specs.CoinLists.{coin_in, AreOnce}
 use Rattle.el_coins.specs.within.Meters.{AreScripts, IsMeter, met_by, met_in, met_from}
 use Rattle.el_chain.proofs.CoinLists.{same_gives, differs, in_without, in_put, once_without, once_put}
@@ -101,7 +101,7 @@ gather_step before found n s lt is =
 
 -- how many there are at most
 once_within : (s : Hash32) (before : List Hash32) → length (add_script s before) ≤ length before + 1
-once_within s before = elim (cases_Bool (has_script s before)) [
+once_within s before = elim (cases_Bool (is_script_among s before)) [
   | inl e ↦ rw e (omega arith)
   | inr e ↦ let joined = length-append before (s ∷ []) in rw e (omega arith)
 ]
@@ -155,7 +155,7 @@ coins_step height n chain b ts coins lt is txs =
     rw (left, txs) refl
 
 -- whether a script hash is among others, as a set says it
-among_turned : (s : Hash32) (scripts : List Hash32) → list_any (λ (x : Hash32). bytes_eq s.0 x.0) scripts ≡ has_script s scripts
+among_turned : (s : Hash32) (scripts : List Hash32) → list_any (λ (x : Hash32). bytes_eq s.0 x.0) scripts ≡ is_script_among s scripts
 among_turned s [] = refl
 among_turned s (x ∷ xs) = rw (turned s.0 x.0 (bytes_eq s.0 x.0) refl, among_turned s xs) refl
   where

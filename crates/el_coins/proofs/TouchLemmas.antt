@@ -15,7 +15,7 @@ use Rattle.el_chain.specs.CoinLaws.{coins_made}
 use Rattle.el_chain.specs.Coins.{coin_made}
 use Rattle.el_chain.specs.History.{has_own}
 use Rattle.el_chain.specs.CoinLists.{coin_in, AreOnce}
-use Rattle.el_coins.specs.CoinTables.{StandsFor}
+use Rattle.el_coins.specs.CoinTables.{CoinsStandFor}
 use Rattle.el_chain.proofs.CoinLists.{same_gives}
 
 -- whether the outpoint's coin has the script hash
@@ -42,7 +42,7 @@ owned s (c ∷ cs) o once = elim (cases_Bool (same_outpoint c.outpoint o)) [
 
 -- the outpoint's coin is touched
 pub coin_touched : (look : Outpoint → Option Coin) (sum : ℕ) (coins : List Coin) (o : Outpoint) (found : Option Coin) (s : Hash32) (before now : Bool)
-    → StandsFor look sum coins → look o ≡ found → now ≡ (before || own_coin s.0 found) → now ≡ (before || has_own s.0 coins o)
+    → CoinsStandFor look sum coins → look o ≡ found → now ≡ (before || own_coin s.0 found) → now ≡ (before || has_own s.0 coins o)
 coin_touched look sum coins o found s before now h is added =
     added ∙ ap (λ (b : Bool). before || b) (ap (own_coin s.0) (sym is ∙ h.each o) ∙ sym (owned s.0 coins o h.once))
 

@@ -13,11 +13,11 @@ use Rattle.el_coins.specs.Tallies.{IsTally, AreFew}
 use Rattle.el_coins.specs.declared.tally.Tally.{Tally}
 use Rattle.el_chain.specs.declared.fault.ConnectFault.{ConnectFault}
 use Rattle.el_tx.specs.declared.types.Tx.{Tx}
-use Rattle.el_coins.specs.CoinTables.{coin_by, coin_over, StandsFor}
+use Rattle.el_coins.specs.CoinTables.{coin_by, coin_over, CoinsStandFor}
 
 -- the changes over the base stand for these coins
 abbrev pub Holds : CoinTable → CoinTable → List Coin → Type 0
-Holds base changes coins = StandsFor (coin_over base.map changes.map) changes.supply coins
+Holds base changes coins = CoinsStandFor (coin_over base.map changes.map) changes.supply coins
 
 -- the changes over the base stand for some coins
 abbrev pub HoldsSome : CoinTable → CoinTable → Type 0
@@ -38,6 +38,6 @@ pub record IsPlainChain (chain : Chain) (kept : CoinTable) (tally : Tally) : Typ
   pub good : IsGood chain
   pub few : length chain ≤ row_limit 1
   pub money : kept.supply ≤ max_money
-  pub stands : StandsFor (coin_by kept.map) kept.supply (coins chain)
+  pub stands : CoinsStandFor (coin_by kept.map) kept.supply (coins chain)
   pub counted : IsTally tally (positions chain)
   pub rows : AreFew tally

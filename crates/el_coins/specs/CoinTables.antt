@@ -25,7 +25,7 @@ coin_over base changes o = option_flatten (option_or (lookup changes o) (lookup 
 
 -- look-ups and a sum stand for coins: each outpoint has the coin that it has there, they hold that sum, and
 -- no outpoint has two
-pub record StandsFor (look : Outpoint → Option Coin) (sum : ℕ) (coins : List Coin) : Type 0 where
+pub record CoinsStandFor (look : Outpoint → Option Coin) (sum : ℕ) (coins : List Coin) : Type 0 where
   pub each : (o : Outpoint) → look o ≡ coin_in coins o
   pub total : sum ≡ supply coins
   pub once : AreOnce coins

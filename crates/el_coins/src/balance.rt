@@ -4,7 +4,7 @@ ghost use Rattle.std.specs.Str.{bytes_eq};
 ghost use Rattle.el_tx.specs.Encoding.{max_money};
 ghost use Rattle.el_chain.specs.declared.coin.Coin as coin_shape;
 ghost use Rattle.el_chain.specs.Coins.{supply};
-ghost use Rattle.el_coins.specs.CoinTables.{coin_by, StandsFor};
+ghost use Rattle.el_coins.specs.CoinTables.{coin_by, CoinsStandFor};
 ghost use Rattle.el_coins.specs.within.Balances.{own_value};
 
 use crate::coins::CoinTable;
@@ -30,9 +30,9 @@ fn value_for(coin: &Option<Coin>, script_hash: &Hash32) -> u64
 /// What the coins of the script hash, in inner order, hold together, in satoshi. Takes no memory.
 pub fn balance_of(table: &CoinTable, script_hash: &Hash32) -> u64
     requires money { table.now.supply ≤ max_money }
-    requires stands { (coins : List coin_shape.Coin) × StandsFor
+    requires stands { (coins : List coin_shape.Coin) × CoinsStandFor
         (coin_by table.now.map) table.now.supply coins }
-    ensures { (coins : List coin_shape.Coin) → StandsFor (coin_by table.now.map) table.now.supply coins
+    ensures { (coins : List coin_shape.Coin) → CoinsStandFor (coin_by table.now.map) table.now.supply coins
         → result ≡ supply (filter (λ (c : coin_shape.Coin). bytes_eq c.script.0 script_hash.now.0) coins) }
 {
     // The length says that no outpoint stands twice.

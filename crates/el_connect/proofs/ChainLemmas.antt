@@ -23,7 +23,7 @@ use Rattle.el_chain.specs.History.{first_start}
 use Rattle.el_chain.specs.CoinLists.{FitsBlock}
 use Rattle.el_chain.proofs.GoodChains.{fits_of_encoded, all_in_encoding, next_more, has_room, first_none, money_fits}
 use Rattle.el_prepare.specs.declared.prepared.PreparedTx.{PreparedTx}
-use Rattle.el_prepare.specs.Prepared.{prepared, prepared_tx, prepared_txs, paid, taken}
+use Rattle.el_prepare.specs.Prepared.{prepared, prepared_tx, prepared_txs, value_and_script, outpoints_taken}
 use Rattle.el_tables.specs.ChainLists.{ListedBlock, lists, listed_blocks}
 use Rattle.el_tables.specs.Connecting.{◌>>=◌, connect_txs, connect_tx, missing_at, ok_unless, bounds_by, full_by, block_between}
 use Rattle.el_tables.specs.Lists.{Lists, unspent_sum}
@@ -35,7 +35,7 @@ use Rattle.el_row_formats.specs.Tables as held
 use Rattle.el_row_formats.specs.declared.table.Table.TheVariants as table
 use Rattle.el_schema.specs.Rows.{Hold, block_fields}
 use Rattle.el_schema.specs.Standing.{StandWith, HoldChain}
-use Rattle.el_connect.specs.within.Parts.{Reached, IsBetween, LedTo, values, IsSmall, connect_next, connect_all}
+use Rattle.el_connect.specs.within.Parts.{Reached, IsBetweenTxs, LedTo, values, IsSmall, connect_next, connect_all}
 use Rattle.el_connect.proofs.MadeLemmas.{between_next}
 use Rattle.el_chain.specs.declared.fault.ConnectFault.TheVariants as refusal
 use Rattle.el_tables.proofs.FitLemmas.{chain_fits}
@@ -44,7 +44,7 @@ use Rattle.el_schema.proofs.StandingLemmas.{stands}
 
 -- 1. What is prepared of a block is small
 
-values_are : (os : List TxOut) → values (map paid os) ≡ total_value os
+values_are : (os : List TxOut) → values (map value_and_script os) ≡ total_value os
 values_are [] = refl
 values_are (o ∷ os) =
     let rest = values_are os in
@@ -58,7 +58,7 @@ lawful t h = by h.1
     by (Encodes.stripped law none is) = law
     by (Encodes.with_witness law some is) = law
 
-taken_few : (t : Tx) → length (taken t) ≤ length t.inputs
+taken_few : (t : Tx) → length (outpoints_taken t) ≤ length t.inputs
 taken_few t =
     let long = length-map (spending_inputs t) (λ (i : TxIn). i.from) in
     elim (cases_Bool (is_coinbase t)) [
@@ -72,7 +72,7 @@ tx_small start t low fits =
     let few = taken_few t in
     let ins = fits.few_inputs in
     let outs = fits.few in
-    let long = length-map t.outputs paid in
+    let long = length-map t.outputs value_and_script in
     record {
       txid = length-sha256 (sha256 (stripped_encoding t));
       start = omega arith;
@@ -184,15 +184,15 @@ sum_within (p ∷ ps) height index l m led le =
     by (Ok c) rest e = inner rest (bounds_by height c) c refl e
 
 -- the lists of a chain stand between transactions
-between_all : (ps : List PreparedTx) (height index : ℕ) (l m : Lists) → connect_all height index ps l ≡ Ok m → IsBetween l → IsBetween m
-between_all [] height index l m led between = (let same : l ≡ m = cc in subst IsBetween same between)
+between_all : (ps : List PreparedTx) (height index : ℕ) (l m : Lists) → connect_all height index ps l ≡ Ok m → IsBetweenTxs l → IsBetweenTxs m
+between_all [] height index l m led between = (let same : l ≡ m = cc in subst IsBetweenTxs same between)
 between_all (p ∷ ps) height index l m led between = by (λ c. between_all ps height (index + 1) c m) (connect_next height index p l) refl led
   where
     wrong : (f : ConnectFault) → Err f ≡ Ok m → ⊥
     wrong f h = cc
 
-    by : ((c : Lists) → connect_all height (index + 1) ps c ≡ Ok m → IsBetween c → IsBetween m)
-        → (r : Result Lists ConnectFault) → connect_next height index p l ≡ r → (r >>= (λ (x : Lists). connect_all height (index + 1) ps x)) ≡ Ok m → IsBetween m
+    by : ((c : Lists) → connect_all height (index + 1) ps c ≡ Ok m → IsBetweenTxs c → IsBetweenTxs m)
+        → (r : Result Lists ConnectFault) → connect_next height index p l ≡ r → (r >>= (λ (x : Lists). connect_all height (index + 1) ps x)) ≡ Ok m → IsBetweenTxs m
     by later (Err f) is e = absurd (wrong f e)
     by later (Ok c) is e = later c e (between_next height index p l c is between)
 
@@ -202,10 +202,10 @@ last_next before [] b next = let same = Rattle.std.proofs.Common.append-nil befo
 last_next before (x ∷ xs) b next =
     subst (λ (c : Chain). IsNext c b.block) (Rattle.std.proofs.Common.append_assoc before (x ∷ []) xs) (last_next (before ++ x ∷ []) xs b next.1)
 
-pub between_of_good : (chain : Chain) → IsGood chain → IsBetween (lists chain)
-between_of_good chain = from_front (λ (c : Chain). IsGood c → IsBetween (lists c)) (λ good. record { outs = refl; scripts = omega arith; entries = omega arith }) more chain
+pub between_of_good : (chain : Chain) → IsGood chain → IsBetweenTxs (lists chain)
+between_of_good chain = from_front (λ (c : Chain). IsGood c → IsBetweenTxs (lists c)) (λ good. record { outs = refl; scripts = omega arith; entries = omega arith }) more chain
   where
-    more : (c : Chain) (b : Placed) → (IsGood c → IsBetween (lists c)) → IsGood (c ++ b ∷ []) → IsBetween (lists (c ++ b ∷ []))
+    more : (c : Chain) (b : Placed) → (IsGood c → IsBetweenTxs (lists c)) → IsGood (c ++ b ∷ []) → IsBetweenTxs (lists (c ++ b ∷ []))
     more c b before good =
         let was = good_before c b good in
         let none = (last_next [] c b good.each).faultless in

@@ -14,21 +14,21 @@ use Rattle.el_spend.specs.declared.lookup.NamedOutput.{NamedOutput}
 use Rattle.el_spend.proofs.Found.{coin_here, coin_gone_here, coin_nowhere, coin_number_is, coin_number_none}
 use Rattle.el_schema.proofs.Rows.{found_at}
 use Rattle.el_connect.specs.declared.outputs.Maker.{Maker}
-use Rattle.el_connect.specs.within.Parts.{value_of, coin_value, IsMaker}
+use Rattle.el_connect.specs.within.Parts.{output_amount, coin_amount, IsMaker}
 
 -- an output that was found
 pub found_value : (o : Outpoint) (n : ℕ) (l : Lists) (x : NamedOutput) (v : ℕ) → Some x ≡ named_among o n l
-    → (x.row.state ≡ out.Unspent → v ≡ x.row.value) → (x.row.state ≢ out.Unspent → v ≡ 0) → v ≡ coin_value o n l
+    → (x.row.state ≡ out.Unspent → v ≡ x.row.value) → (x.row.state ≢ out.Unspent → v ≡ 0) → v ≡ coin_amount o n l
 found_value o n l x v found held gone = by x.row.state refl
   where
-    gives : (r : Option ℕ) → coin_number o (take n l.txs) l.outs ≡ r → value_of r l.outs ≡ coin_value o n l
-    gives r is = ap (λ (q : Option ℕ). value_of q l.outs) (sym is)
+    gives : (r : Option ℕ) → coin_number o (take n l.txs) l.outs ≡ r → output_amount r l.outs ≡ coin_amount o n l
+    gives r is = ap (λ (q : Option ℕ). output_amount q l.outs) (sym is)
 
-    none : x.row.state ≢ out.Unspent → v ≡ coin_value o n l
+    none : x.row.state ≢ out.Unspent → v ≡ coin_amount o n l
     none isnt =
         gone isnt ∙ gives None (coin_number_none l.outs (output_number o (take n l.txs)) (coin_gone_here l.outs (output_number o (take n l.txs)) x found isnt))
 
-    by : (s : State) → x.row.state ≡ s → v ≡ coin_value o n l
+    by : (s : State) → x.row.state ≡ s → v ≡ coin_amount o n l
     by out.Unspent is =
         let coin = coin_number_is l.outs (output_number o (take n l.txs)) x (coin_here l.outs (output_number o (take n l.txs)) x found is) in
         held is ∙ ap (λ (r : OutRow). r.value) (found_at out_fields l.outs x.number no_out x.row coin.1) ∙ gives (Some x.number) coin.0
@@ -42,17 +42,17 @@ found_value o n l x v found held gone = by x.row.state refl
         wrong e = cc
 
 -- where none was found
-pub none_found : (o : Outpoint) (n : ℕ) (l : Lists) → None ≡ named_among o n l → 0 ≡ coin_value o n l
+pub none_found : (o : Outpoint) (n : ℕ) (l : Lists) → None ≡ named_among o n l → 0 ≡ coin_amount o n l
 none_found o n l found =
-    ap (λ (q : Option ℕ). value_of q l.outs) (sym (coin_number_none l.outs (output_number o (take n l.txs)) (coin_nowhere l.outs (output_number o (take n l.txs)) found)))
+    ap (λ (q : Option ℕ). output_amount q l.outs) (sym (coin_number_none l.outs (output_number o (take n l.txs)) (coin_nowhere l.outs (output_number o (take n l.txs)) found)))
 
 -- where no transaction before has the txid
-pub none_older : (o : Outpoint) (n : ℕ) (l : Lists) → newest_tx o.txid (take n l.txs) ≡ None → 0 ≡ coin_value o n l
+pub none_older : (o : Outpoint) (n : ℕ) (l : Lists) → newest_tx o.txid (take n l.txs) ≡ None → 0 ≡ coin_amount o n l
 none_older o n l none =
-    ap (λ (q : Option ℕ). value_of (option_and_then (if_unspent l.outs) q) l.outs) (sym (none_named o (take n l.txs) none))
+    ap (λ (q : Option ℕ). output_amount (option_and_then (if_unspent l.outs) q) l.outs) (sym (none_named o (take n l.txs) none))
 
 -- the coin that an output replaces is that of its outpoint
 pub replaced_value : (m : Maker) (index : ℕ) (l : Lists) → IsMaker m l
-    → coin_value (record { txid = m.txid; index = index }) m.number l ≡ value_of (replaced m.number index l) l.outs
+    → coin_amount (record { txid = m.txid; index = index }) m.number l ≡ output_amount (replaced m.number index l) l.outs
 replaced_value m index l is =
-    ap (λ (h : Hash32). coin_value (record { txid = h; index = index }) m.number l) (sym is.txid)
+    ap (λ (h : Hash32). coin_amount (record { txid = h; index = index }) m.number l) (sym is.txid)

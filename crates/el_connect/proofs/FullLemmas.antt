@@ -27,8 +27,8 @@ use Rattle.el_buckets.specs.Faults.{NotAdded}
 use Rattle.el_schema.specs.Rows.{Hold}
 use Rattle.el_schema.proofs.Rows.{on_ins}
 use Rattle.el_schema.proofs.Held.{count_ins}
-use Rattle.el_connect.specs.within.Parts.{Reached, IsBetween, IsCounted, OutsInTurn, connect_next, made_by, scripts_of, touch_coins}
-use Rattle.el_connect.specs.within.Full.{TakenBy, TakingOn, FineCoins, IsNext, ReadyCoins}
+use Rattle.el_connect.specs.within.Parts.{Reached, IsBetweenTxs, FitsTables, OutsInTurn, connect_next, made_by, output_scripts, touch_coins}
+use Rattle.el_connect.specs.within.Full.{TakenBy, TakingOn, FineCoins, IsNextTx, ReadyCoins}
 use Rattle.el_connect.proofs.StepLemmas.{input_missing, input_spent, inputs_end, last_txid, before_last, not_added}
 use Rattle.el_connect.proofs.TouchLemmas.{coin_touched, full_none, full_some, fund_scripts, touch_scripts}
 use Rattle.el_connect.proofs.MadeLemmas.{made_txs, made_outs, made_ins, tx_leads}
@@ -218,7 +218,7 @@ full_scripts height l e low txs outs ins lt is =
 same_lists : (x y : Lists) (r : Result Lists ℕ) → r ≡ Ok x → r ≡ Ok y → x ≡ y
 same_lists x y r a b = cc
 
-module _ (counts : HeadCounts) (bs : List ListedBlock) (start l : Lists) (height index : ℕ) (p : PreparedTx) (rows : held.Tables) (left sum by : ℕ) (is : List Outpoint) (count : by ≡ length l.txs) (same : is ≡ p.inputs) (between : IsBetween l)
+module _ (counts : HeadCounts) (bs : List ListedBlock) (start l : Lists) (height index : ℕ) (p : PreparedTx) (rows : held.Tables) (left sum by : ℕ) (is : List Outpoint) (count : by ≡ length l.txs) (same : is ≡ p.inputs) (between : IsBetweenTxs l)
     (taken : TakingOn counts bs by start l rows left sum (length is) (λ real. spend_all by 0 is l ≡ Ok real)) where
   abbrev t : ListedTx
   t = listed_after height p l
@@ -228,7 +228,7 @@ module _ (counts : HeadCounts) (bs : List ListedBlock) (start l : Lists) (height
 
   -- what the look-ups of coins tell of lists with the transaction
   abbrev Looked : (Lists → Type 0) → Type 0
-  Looked P = (next : Lists) → OutsInTurn 0 taken.now.txs (length taken.now.outs) → IsNext taken.now next by p.txid → left ≡ unspent_sum taken.now.outs → P (fund_all by 0 p.outputs next)
+  Looked P = (next : Lists) → OutsInTurn 0 taken.now.txs (length taken.now.outs) → IsNextTx taken.now next by p.txid → left ≡ unspent_sum taken.now.outs → P (fund_all by 0 p.outputs next)
 
   spends : spend_all (length l.txs) 0 p.inputs l ≡ Ok taken.real
   spends =
@@ -246,7 +246,7 @@ module _ (counts : HeadCounts) (bs : List ListedBlock) (start l : Lists) (height
       subst (λ (n : ℕ). OutsInTurn 0 taken.now.txs n) (sym outs)
       (subst (λ (ts : List ListedTx). OutsInTurn 0 ts (length l.outs)) (sym (taken.txs ∙ taken.real_txs)) between.outs)
 
-  is_next : IsNext taken.now (add_tx t taken.real) by p.txid
+  is_next : IsNextTx taken.now (add_tx t taken.real) by p.txid
   is_next =
       let u = listed_after height p l in
       record {
@@ -295,14 +295,14 @@ module _ (counts : HeadCounts) (bs : List ListedBlock) (start l : Lists) (height
     fits_now : Fits taken.now
     fits_now = taken.fits (subst Fits (sym whole) reached.fits)
 
-    pub made_scripts : (os : List (ℕ × Hash32)) → os ≡ p.outputs → after.scripts ≡ add_scripts taken.now.scripts (scripts_of os)
+    pub made_scripts : (os : List (ℕ × Hash32)) → os ≡ p.outputs → after.scripts ≡ add_scripts taken.now.scripts (output_scripts os)
     made_scripts os at =
         let there = ap (λ (x : Lists). x.scripts) (taken.touched whole) ∙ touch_scripts by taken.coins taken.now fits_now.within taken.some in
         fund_scripts (length taken.real.txs) 0 p.outputs (add_tx t taken.real)
-        ∙ ap (λ (xs : List Hash32). add_scripts xs (scripts_of p.outputs)) there ∙ ap (λ (xs : List (ℕ × Hash32)). add_scripts taken.now.scripts (scripts_of xs)) (sym at)
+        ∙ ap (λ (xs : List Hash32). add_scripts xs (output_scripts p.outputs)) there ∙ ap (λ (xs : List (ℕ × Hash32)). add_scripts taken.now.scripts (output_scripts xs)) (sym at)
 
-    pub scripts_wrong : (e : ConnectFault) (os : List (ℕ × Hash32)) → os ≡ p.outputs → IsCounted height p l → Looked (λ x. money_fault (unspent_sum x.outs) ≡ None)
-        → (e ≡ refusal.DiskFailed) ⊎ ((e ≡ refusal.Full 6 (row_limit 6)) × (row_limit 6 < length (add_scripts taken.now.scripts (scripts_of os))))
+    pub scripts_wrong : (e : ConnectFault) (os : List (ℕ × Hash32)) → os ≡ p.outputs → FitsTables height p l → Looked (λ x. money_fault (unspent_sum x.outs) ≡ None)
+        → (e ≡ refusal.DiskFailed) ⊎ ((e ≡ refusal.Full 6 (row_limit 6)) × (row_limit 6 < length (add_scripts taken.now.scripts (output_scripts os))))
         → (e ≡ refusal.DiskFailed) ⊎ ((e ≡ refusal.Memory) ⊎ (connect_next height index p l ≡ Err e))
     scripts_wrong e os at counted tells (inl disk) = inl disk
     scripts_wrong e os at counted tells (inr full) =
@@ -320,7 +320,7 @@ module _ (counts : HeadCounts) (bs : List ListedBlock) (start l : Lists) (height
         inr (inr (full_next height index p l e fine (full_scripts height fine.lists e (omega arith) (omega arith) (omega arith) (omega arith) (omega arith) full.0)))
 
     pub coins_ready : (os : List (ℕ × Hash32)) → os ≡ p.outputs → sum ≤ max_money → Looked (λ x. money_fault (unspent_sum x.outs) ≡ None)
-        → length (add_scripts taken.now.scripts (scripts_of os)) ≤ row_limit 6 → ReadyCoins counts bs rows left height p l
+        → length (add_scripts taken.now.scripts (output_scripts os)) ≤ row_limit 6 → ReadyCoins counts bs rows left height p l
     coins_ready os at most tells few =
         let fell = taken.fell in
         let scripts = ap (λ (xs : List Hash32). length xs) (made_scripts os at) in

@@ -12,7 +12,7 @@ use Rattle.el_tables.specs.Lists.{Lists, ListedTx, add_entry, unspent_sum}
 use Rattle.el_tables.specs.Tables.{HeadCounts}
 use Rattle.el_row_formats.specs.Tables as held
 use Rattle.el_connect.specs.declared.outputs.Maker.{Maker}
-use Rattle.el_connect.specs.within.Parts.{Reached, HasRoom, IsMaker, FundingOn, TouchingOn, Overflows, touch_coins, values}
+use Rattle.el_connect.specs.within.Parts.{Reached, HasRoomFor, IsMaker, FundingOn, TouchingOn, Overflows, touch_coins, values}
 use Rattle.el_connect.proofs.StepLemmas.{output_funded, outputs_end, values_left, funded_at_most}
 use Rattle.el_connect.proofs.TouchLemmas.{coin_here, coins_left, coins_end, touch_more, fund_more, refused_later}
 
@@ -46,7 +46,7 @@ module _ (counts : HeadCounts) (bs : List ListedBlock) (l : Lists) (by n first s
       inv.left ∙ coins_left by at k ks now lt (is ∙ get_or_default ks at 0 k lt)
 
   pub touches_more : (rows new : held.Tables) (at : ℕ) → at < length ks → Touches rows at → ((now : Lists) → Reached counts bs now rows sum → Reached counts bs (after at now) new sum)
-      → ((now : Lists) → Reached counts bs now rows sum → HasRoom now 0 n → HasRoom (after at now) 0 n) → Touches new (at + 1)
+      → ((now : Lists) → Reached counts bs now rows sum → HasRoomFor now 0 n → HasRoomFor (after at now) 0 n) → Touches new (at + 1)
   touches_more rows new at lt inv touched room =
       let now = inv.lists in
       record {
@@ -100,7 +100,7 @@ module _ (counts : HeadCounts) (bs : List ListedBlock) (before : Lists) (m : Mak
 
   pub outputs_more : (rows new : held.Tables) (after more at : ℕ) (o : ℕ × Hash32) → at < length os → o ≡ get_or os at o → IsMaker m before → Outputs rows after at
       → ((now : Lists) → Reached counts bs now rows after → IsMaker m now → unspent_sum now.outs + o.0 < 2 ^ 64 → Reached counts bs (fund m.number at o now) new more)
-      → ((now : Lists) (j : ℕ) → Reached counts bs now rows after → HasRoom now 0 (j + 1) → HasRoom (fund m.number at o now) 0 j)
+      → ((now : Lists) (j : ℕ) → Reached counts bs now rows after → HasRoomFor now 0 (j + 1) → HasRoomFor (fund m.number at o now) 0 j)
       → Outputs new more (at + 1)
   outputs_more rows new after more at o lt is maker inv funds rooms =
       let now = inv.lists in
@@ -113,14 +113,14 @@ module _ (counts : HeadCounts) (bs : List ListedBlock) (before : Lists) (m : Mak
         lists = fund m.number at o now;
         left = inv.left ∙ output_funded m.number at os o now lt is;
         reached = funds now inv.reached (same_maker m before now inv.same maker) (omega arith);
-        room = rooms now (length os - (at + 1)) inv.reached (subst (λ (j : ℕ). HasRoom now 0 j) k inv.room);
+        room = rooms now (length os - (at + 1)) inv.reached (subst (λ (j : ℕ). HasRoomFor now 0 j) k inv.room);
         same = inv.same;
         fit = omega arith;
       }
 
   pub outputs_fail : (rows : held.Tables) (after at : ℕ) (o : ℕ × Hash32) (e : ConnectFault) → at < length os → o ≡ get_or os at o → Outputs rows after at
       → length (fund_all m.number 0 os before).scripts ≤ row_limit 6
-      → ((now : Lists) (k : ℕ) → Reached counts bs now rows after → HasRoom now 0 (k + 1) → length (fund m.number at o now).scripts ≤ row_limit 6
+      → ((now : Lists) (k : ℕ) → Reached counts bs now rows after → HasRoomFor now 0 (k + 1) → length (fund m.number at o now).scripts ≤ row_limit 6
       → (e ≡ refusal.DiskFailed) ⊎ ((e ≡ refusal.Memory) ⊎ Overflows (fund m.number at o now) e))
       → (e ≡ refusal.DiskFailed) ⊎ ((e ≡ refusal.Memory) ⊎ Overflows (fund_all m.number 0 os before) e)
   outputs_fail rows after at o e lt is inv few refused =
@@ -133,13 +133,13 @@ module _ (counts : HeadCounts) (bs : List ListedBlock) (before : Lists) (m : Mak
       let scripts = ap (λ (x : Lists). length x.scripts) step in
       let entries = ap (λ (x : Lists). length x.entries) step in
       refused_later (fund m.number at o now) (fund_all m.number 0 os before) e (omega arith) (λ o. o)
-      (refused now (length os - (at + 1)) inv.reached (subst (λ (j : ℕ). HasRoom now 0 j) k inv.room) (omega arith))
+      (refused now (length os - (at + 1)) inv.reached (subst (λ (j : ℕ). HasRoomFor now 0 j) k inv.room) (omega arith))
 
   pub outputs_done : (rows : held.Tables) (after at : ℕ) → length os ≤ at → Outputs rows after at → Reached counts bs (fund_all m.number 0 os before) rows after
   outputs_done rows after at le inv =
       subst (λ (l : Lists). Reached counts bs l rows after) (sym (inv.left ∙ outputs_end m.number at os inv.lists le)) inv.reached
 
-  pub outputs_room : (rows : held.Tables) (after at : ℕ) → length os ≤ at → Outputs rows after at → HasRoom (fund_all m.number 0 os before) 0 0
+  pub outputs_room : (rows : held.Tables) (after at : ℕ) → length os ≤ at → Outputs rows after at → HasRoomFor (fund_all m.number 0 os before) 0 0
   outputs_room rows after at le inv =
       let none : length os - at ≡ 0 = omega arith in
-      subst (λ (l : Lists). HasRoom l 0 0) (sym (inv.left ∙ outputs_end m.number at os inv.lists le)) (subst (λ (j : ℕ). HasRoom inv.lists 0 j) none inv.room)
+      subst (λ (l : Lists). HasRoomFor l 0 0) (sym (inv.left ∙ outputs_end m.number at os inv.lists le)) (subst (λ (j : ℕ). HasRoomFor inv.lists 0 j) none inv.room)

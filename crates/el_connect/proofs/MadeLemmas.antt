@@ -11,7 +11,7 @@ use Rattle.el_prepare.specs.declared.prepared.PreparedTx.{PreparedTx}
 use Rattle.el_tables.specs.Connecting.{◌>>=◌, spend_all, spend_coin, fund, fund_all, listed_after, connect_tx, missing_at, ok_unless, bounds_by, full_by}
 use Rattle.el_tables.specs.Lists.{State, Lists, ListedTx, ListedOut, add_entry, add_tx, bury, coin_number, replaced, script_number, unspent_sum}
 use Rattle.el_tables.proofs.Steps.{length_state}
-use Rattle.el_connect.specs.within.Parts.{IsBetween, OutsInTurn, connect_next, made_by}
+use Rattle.el_connect.specs.within.Parts.{IsBetweenTxs, OutsInTurn, connect_next, made_by}
 use Rattle.el_connect.proofs.StepLemmas.{bury_long, fund_txs}
 use Rattle.el_connect.proofs.TouchLemmas.{within_full}
 
@@ -73,7 +73,7 @@ turn_more first count more [] t h at end = let same : first ≡ count = h in (at
 turn_more first count more (u ∷ us) t h at end = (h.0, turn_more (first + u.outs) count more us t h.1 at end)
 
 -- a transaction's steps lead from one such place to the next
-pub between_next : (height index : ℕ) (p : PreparedTx) (l m : Lists) → connect_next height index p l ≡ Ok m → IsBetween l → IsBetween m
+pub between_next : (height index : ℕ) (p : PreparedTx) (l m : Lists) → connect_next height index p l ≡ Ok m → IsBetweenTxs l → IsBetweenTxs m
 between_next height index p l m led between = go (spend_all (length l.txs) 0 p.inputs l) refl
   where
     wrong : (e : ConnectFault) → Err e ≡ Ok m → ⊥
@@ -83,7 +83,7 @@ between_next height index p l m led between = go (spend_all (length l.txs) 0 p.i
     bounded None x e = (refl, cc)
     bounded (Some f) x e = absurd (wrong f e)
 
-    made : (real : Lists) → spend_all (length l.txs) 0 p.inputs l ≡ Ok real → IsBetween m
+    made : (real : Lists) → spend_all (length l.txs) 0 p.inputs l ≡ Ok real → IsBetweenTxs m
     made real is =
         let leaves = inputs_leave (length l.txs) 0 p.inputs l real is in
         let x = made_by (listed_after height p l) p.outputs real in
@@ -97,13 +97,13 @@ between_next height index p l m led between = go (spend_all (length l.txs) 0 p.i
         let outs = made_outs (listed_after height p l) p.outputs real in
         let long = leaves.1 in
         let turn = turn_more 0 (length l.outs) (length x.outs) l.txs (listed_after height p l) between.outs refl (omega arith) in
-        subst IsBetween both.1 (record {
+        subst IsBetweenTxs both.1 (record {
           outs = subst (λ (ts : List ListedTx). OutsInTurn 0 ts (length x.outs)) (sym txs) turn;
           scripts = within_full 6 (length x.scripts) (first_none _ _ low);
           entries = within_full 8 (length x.entries) (second_none (full 6 (length x.scripts)) _ low);
         })
 
-    go : (r : Result Lists ℕ) → spend_all (length l.txs) 0 p.inputs l ≡ r → IsBetween m
+    go : (r : Result Lists ℕ) → spend_all (length l.txs) 0 p.inputs l ≡ r → IsBetweenTxs m
     go (Ok real) is = made real is
     go (Err at) is =
         let step : connect_next height index p l ≡ missing_at {A = Lists} index (Err at) =

@@ -13,8 +13,8 @@ use Rattle.el_tables.specs.Connecting.{fund, fund_all}
 use Rattle.el_tables.specs.Edits.{no_out}
 use Rattle.el_tables.specs.Lists.{State, Lists, ListedTx, ListedOut, add_entry, bury, coin_number, has_output, if_unspent, output_number, replaced, script_number, txid_at, unspent_at, unspent_sum, with_state}
 use Rattle.el_tables.proofs.Steps.{unspent_front, named_of}
-use Rattle.el_connect.specs.within.Parts.{OutsInTurn, coin_value, value_of, values}
-use Rattle.el_connect.specs.within.Full.{IsNext}
+use Rattle.el_connect.specs.within.Parts.{OutsInTurn, coin_amount, output_amount, values}
+use Rattle.el_connect.specs.within.Full.{IsNextTx}
 use Rattle.el_connect.proofs.MadeLemmas.{money_none}
 use Rattle.el_connect.proofs.StepLemmas.{bury_long, funded_sum, gone_within, output_funded, outputs_end, value_stays, values_left}
 
@@ -92,7 +92,7 @@ buried_value n None k xs = refl
 buried_value n (Some j) k xs = value_stays (State.Buried n) j k xs
 
 held_still : (n : ℕ) (r names : Option ℕ) (x : ListedOut) (xs : List ListedOut) → ((k : ℕ) → names ≡ Some k → (k < length xs) × (r ≡ Some k → ⊥))
-    → value_of (option_and_then (if_unspent (bury n r xs ++ x ∷ [])) names) (bury n r xs ++ x ∷ []) ≡ value_of (option_and_then (if_unspent xs) names) xs
+    → output_amount (option_and_then (if_unspent (bury n r xs ++ x ∷ [])) names) (bury n r xs ++ x ∷ []) ≡ output_amount (option_and_then (if_unspent xs) names) xs
 held_still n r None x xs known = refl
 held_still n r (Some k) x xs known =
     let at = known k refl in
@@ -109,12 +109,12 @@ held_still n r (Some k) x xs known =
 
 -- 3. Outputs one after the other
 
-module _ (l next : Lists) (number : ℕ) (id : Hash32) (turn : OutsInTurn 0 l.txs (length l.outs)) (is_next : IsNext l next number id) where
+module _ (l next : Lists) (number : ℕ) (id : Hash32) (turn : OutsInTurn 0 l.txs (length l.outs)) (is_next : IsNextTx l next number id) where
   abbrev point : ℕ → Outpoint
   point j = record { txid = id; index = j }
 
   keeps_one : (at j : ℕ) (o : ℕ × Hash32) (now : Lists) → now.txs ≡ next.txs → length l.outs ≤ length now.outs → at < j
-      → coin_value (point j) number (fund number at o now) ≡ coin_value (point j) number now
+      → coin_amount (point j) number (fund number at o now) ≡ coin_amount (point j) number now
   keeps_one at j o now txs longer lt =
       let front : take number now.txs ≡ l.txs = ap (take number) txs ∙ is_next.front in
       let own : txid_at number now.txs ≡ id = ap (txid_at number) txs ∙ is_next.id in
@@ -137,16 +137,16 @@ module _ (l next : Lists) (number : ℕ) (id : Hash32) (turn : OutsInTurn 0 l.tx
     pub sum_is : after ≡ unspent_sum now.outs
     pub fit : unspent_sum now.outs + values (drop at os) < 2 ^ 64
     pub longer : length l.outs ≤ length now.outs
-    pub keeps : (j : ℕ) → at ≤ j → coin_value (point j) number now ≡ coin_value (point j) number l
+    pub keeps : (j : ℕ) → at ≤ j → coin_amount (point j) number now ≡ coin_amount (point j) number l
 
-  pub counting_more : (os : List (ℕ × Hash32)) (after more gone at : ℕ) (o : ℕ × Hash32) → at < length os → o ≡ get_or os at o → gone ≡ coin_value (point at) number l
+  pub counting_more : (os : List (ℕ × Hash32)) (after more gone at : ℕ) (o : ℕ × Hash32) → at < length os → o ≡ get_or os at o → gone ≡ coin_amount (point at) number l
       → more ≡ min (after - gone + o.0) 18446744073709551615 → Counting os after at → Counting os more (at + 1)
   counting_more os after more gone at o lt is gone_is more_is inv =
       let now = inv.now in
       let e = add_entry o.1 number now in
       let own : txid_at number now.txs ≡ id = ap (txid_at number) inv.txs ∙ is_next.id in
-      let replaces : value_of (replaced number at e) e.outs ≡ gone =
-      ap (λ (h : Hash32). coin_value (record { txid = h; index = at }) number now) own ∙ inv.keeps at (omega arith) ∙ sym gone_is in
+      let replaces : output_amount (replaced number at e) e.outs ≡ gone =
+      ap (λ (h : Hash32). coin_amount (record { txid = h; index = at }) number now) own ∙ inv.keeps at (omega arith) ∙ sym gone_is in
       let sums = funded_sum e number at o.0 (script_number o.1 e.scripts) in
       let part = gone_within e number at in
       let left = values_left at os o lt is in
@@ -181,7 +181,7 @@ sum_at_most tx at (o ∷ os) l =
     let rest = sum_at_most tx (at + 1) os (fund tx at o l) in
     omega arith
 
-pub few_fine : (l next : Lists) (number left : ℕ) (id : Hash32) (os : List (ℕ × Hash32)) → IsNext l next number id → left ≡ unspent_sum l.outs → left + values os ≤ max_money
+pub few_fine : (l next : Lists) (number left : ℕ) (id : Hash32) (os : List (ℕ × Hash32)) → IsNextTx l next number id → left ≡ unspent_sum l.outs → left + values os ≤ max_money
     → money_fault (unspent_sum (fund_all number 0 os next).outs) ≡ None
 few_fine l next number left id os is_next is few =
     let most = sum_at_most number 0 os next in

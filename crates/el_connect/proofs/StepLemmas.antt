@@ -11,7 +11,7 @@ use Rattle.el_tables.specs.ChainLists.{ListedBlock}
 use Rattle.el_tables.specs.Connecting.{spend_all, spend_coin, fund, fund_all}
 use Rattle.el_tables.specs.Edits.{no_out}
 use Rattle.el_tables.specs.Fits.{Fits}
-use Rattle.el_tables.specs.Lists.{State, Lists, ListedTx, ListedOut, script_number, add_entry, add_output, spend_output, with_state, script_at, coin_number, spend, replaced, bury, unspent_sum, txid_at}
+use Rattle.el_tables.specs.Lists.{State, Lists, ListedTx, ListedOut, script_number, add_entry, add_output, spend_output, with_state, script_at, coin_number, spend_outpoint, replaced, bury, unspent_sum, txid_at}
 use Rattle.el_tables.specs.Tables.{HeadCounts}
 use Rattle.el_tables.proofs.FitLemmas.{touch_fits, add_out_fits}
 use Rattle.el_tables.proofs.RunningSums.{alone_more, buries_more}
@@ -24,7 +24,7 @@ use Rattle.el_row_formats.specs.declared.table.Table.TheVariants as table
 use Rattle.el_buckets.specs.Faults.{NotAdded}
 use Rattle.el_schema.specs.Rows.{Hold}
 use Rattle.el_schema.proofs.Held.{count_txs}
-use Rattle.el_connect.specs.within.Parts.{Reached, values, value_of}
+use Rattle.el_connect.specs.within.Parts.{Reached, values, output_amount}
 
 -- 1. Lengths
 
@@ -64,10 +64,10 @@ inputs_end by at os l le = let none = drop_all at os le in rw none refl
 
 -- the sum falls by what is buried, and rises by the value
 pub funded_sum : (l : Lists) (tx index value script : ℕ)
-    → unspent_sum (add_output tx index value script l).outs + value_of (replaced tx index l) l.outs ≡ unspent_sum l.outs + value
+    → unspent_sum (add_output tx index value script l).outs + output_amount (replaced tx index l) l.outs ≡ unspent_sum l.outs + value
 funded_sum l tx index value script = by (replaced tx index l) refl
   where
-    by : (r : Option ℕ) → replaced tx index l ≡ r → unspent_sum (add_output tx index value script l).outs + value_of r l.outs ≡ unspent_sum l.outs + value
+    by : (r : Option ℕ) → replaced tx index l ≡ r → unspent_sum (add_output tx index value script l).outs + output_amount r l.outs ≡ unspent_sum l.outs + value
     by None is = let e = alone_more l tx index value script is in omega arith
     by (Some k) is = buries_more l tx index value script k is
 
@@ -75,7 +75,7 @@ pub funded_at_most : (l : Lists) (tx index value script : ℕ) → unspent_sum (
 funded_at_most l tx index value script = let e = funded_sum l tx index value script in omega arith
 
 -- what is buried is a part of the sum
-pub gone_within : (l : Lists) (tx index : ℕ) → value_of (replaced tx index l) l.outs ≤ unspent_sum l.outs
+pub gone_within : (l : Lists) (tx index : ℕ) → output_amount (replaced tx index l) l.outs ≤ unspent_sum l.outs
 gone_within l tx index = let e = funded_sum l tx index 0 0 in omega arith
 
 -- the script hash's number is one of those that there are then
@@ -116,11 +116,11 @@ before_last txs t = take_at txs (t ∷ []) (length txs) refl
 
 -- 5. Rows and the sum after a step
 
-pub spent_lists : (o : Outpoint) (by k : ℕ) (l : Lists) → coin_number o l.txs l.outs ≡ Some k → unwrap_or (spend o by l) l ≡ spend_output by k l
+pub spent_lists : (o : Outpoint) (by k : ℕ) (l : Lists) → coin_number o l.txs l.outs ≡ Some k → unwrap_or (spend_outpoint o by l) l ≡ spend_output by k l
 spent_lists o by k l is = rw is refl
 
 pub output_reached : (counts : HeadCounts) (bs : List ListedBlock) (l : Lists) (before rows : held.Tables) (sum tx index gone after : ℕ) (o : ℕ × Hash32) → Reached counts bs l before sum
-    → unspent_sum l.outs + o.0 < 2 ^ 64 → gone ≡ value_of (replaced tx index (add_entry o.1 tx l)) l.outs → after ≡ min (sum - gone + o.0) 18446744073709551615
+    → unspent_sum l.outs + o.0 < 2 ^ 64 → gone ≡ output_amount (replaced tx index (add_entry o.1 tx l)) l.outs → after ≡ min (sum - gone + o.0) 18446744073709551615
     → Hold counts bs (fund tx index o l) rows → Reached counts bs (fund tx index o l) rows after
 output_reached counts bs l before rows sum tx index gone after o reached fit buried is hold =
     let e = add_entry o.1 tx l in

@@ -25,7 +25,7 @@ use Rattle.el_schema.proofs.Held.{count_scripts}
 use Rattle.el_row_formats.specs.declared.table.Table.TheVariants as table
 use Rattle.el_script.specs.Touches.{touch_full}
 use Rattle.el_script.proofs.Causes.{hash_there}
-use Rattle.el_connect.specs.within.Parts.{HasRoom, Overflows, Reached, touch_coins, scripts_of}
+use Rattle.el_connect.specs.within.Parts.{HasRoomFor, Overflows, Reached, touch_coins, output_scripts}
 use Rattle.el_connect.proofs.StepLemmas.{bury_long, script_stays}
 
 -- 1. One entry
@@ -58,7 +58,7 @@ full_last height l low txs outs ins scripts =
     rw (one, two, four, five, six) refl
 
 -- after an entry no table has too many rows
-pub room_touched : (s : Hash32) (tx n : ℕ) (l : Lists) → HasRoom l 0 n → touch_full s tx l ≡ None → HasRoom (add_entry s tx l) 0 n
+pub room_touched : (s : Hash32) (tx n : ℕ) (l : Lists) → HasRoomFor l 0 n → touch_full s tx l ≡ None → HasRoomFor (add_entry s tx l) 0 n
 room_touched s tx n l room none = record {
   ins = room.ins;
   outs = room.outs;
@@ -67,7 +67,7 @@ room_touched s tx n l room none = record {
 }
 
 -- nor after an output
-pub room_funded : (tx index n : ℕ) (o : ℕ × Hash32) (l : Lists) → HasRoom l 0 (n + 1) → touch_full o.1 tx l ≡ None → HasRoom (fund tx index o l) 0 n
+pub room_funded : (tx index n : ℕ) (o : ℕ × Hash32) (l : Lists) → HasRoomFor l 0 (n + 1) → touch_full o.1 tx l ≡ None → HasRoomFor (fund tx index o l) 0 n
 room_funded tx index n o l room none =
     let e = add_entry o.1 tx l in
     let x : ListedOut = record { tx = tx; value = o.0; script = script_number o.1 e.scripts; state = State.Unspent } in
@@ -135,7 +135,7 @@ fund_more tx at (o ∷ os) l =
     let d = rest.1 in
     (omega arith, omega arith)
 
-pub fund_scripts : (tx at : ℕ) (os : List (ℕ × Hash32)) (l : Lists) → (fund_all tx at os l).scripts ≡ add_scripts l.scripts (scripts_of os)
+pub fund_scripts : (tx at : ℕ) (os : List (ℕ × Hash32)) (l : Lists) → (fund_all tx at os l).scripts ≡ add_scripts l.scripts (output_scripts os)
 fund_scripts tx at [] l = refl
 fund_scripts tx at (o ∷ os) l = fund_scripts tx (at + 1) os (fund tx at o l)
 

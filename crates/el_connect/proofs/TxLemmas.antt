@@ -22,7 +22,7 @@ use Rattle.el_row_formats.specs.Tables as held
 use Rattle.el_schema.specs.Rows.{Hold}
 use Rattle.el_connect.specs.declared.outputs.Maker.{Maker}
 use Rattle.el_connect.specs.within.Full.{ReadyCoins}
-use Rattle.el_connect.specs.within.Parts.{Reached, HasRoom, IsBetween, IsMaker, IsSmall, IsCounted, LedTo, LeadingOn, Overflows, TouchingOn, connect_next, connect_all, made_by, touch_coins, values}
+use Rattle.el_connect.specs.within.Parts.{Reached, HasRoomFor, IsBetweenTxs, IsMaker, IsSmall, FitsTables, LedTo, LeadingOn, Overflows, TouchingOn, connect_next, connect_all, made_by, touch_coins, values}
 use Rattle.el_connect.proofs.StepLemmas.{last_txid}
 use Rattle.el_connect.proofs.TouchLemmas.{full_last, full_none, full_some, fund_more, refused_later, touch_txs, touch_outs, touch_ins}
 use Rattle.el_connect.proofs.MadeLemmas.{between_next, made_txs, made_outs, made_ins, money_none, tx_leads}
@@ -33,11 +33,11 @@ use Rattle.el_connect.proofs.MadeLemmas.{between_next, made_txs, made_outs, made
 pub record Listed (counts : HeadCounts) (bs : List ListedBlock) (l : Lists) (rows : held.Tables) (left : ℕ) (m : Maker) (os : List (ℕ × Hash32)) : Type 0 where
   pub reached : Reached counts bs l rows left
   pub maker : IsMaker m l
-  pub room : HasRoom l 0 (length os)
+  pub room : HasRoomFor l 0 (length os)
   pub fit : unspent_sum l.outs + values os < 2 ^ 64
 
 pub tx_listed : (counts : HeadCounts) (bs : List ListedBlock) (l : Lists) (t : ListedTx) (before added new : held.Tables) (left number : ℕ) (older : Option ℕ) (os : List (ℕ × Hash32))
-    → Reached counts bs l before left → HasRoom l 0 (length os) → unspent_sum l.outs + values os < 2 ^ 64
+    → Reached counts bs l before left → HasRoomFor l 0 (length os) → unspent_sum l.outs + values os < 2 ^ 64
     → Hold counts bs (add_tx t l) added → number ≡ length l.txs → new ≡ added
     → ((x : Lists) → Hold counts bs x added → older ≡ newest_tx (txid_at number x.txs) (take number x.txs))
     → Listed counts bs (add_tx t l) new left (record { number = number; txid = t.txid; older = older }) os
@@ -84,7 +84,7 @@ missing_refused index height by p l is e count same (inr (inr missing)) =
     inr (inr (tx_missing index height by p l e count (subst (λ (xs : List Outpoint). missing_at {A = Lists} index (spend_all by 0 xs l) ≡ Err e) same missing)))
 
 pub counted_of : (height : ℕ) (p : PreparedTx) (l : Lists) → height < row_limit 1 → length l.txs < row_limit 2 → length l.outs + length p.outputs ≤ row_limit 4 → length l.ins + length p.inputs ≤ row_limit 5
-    → IsCounted height p l
+    → FitsTables height p l
 counted_of height p l a b c d = record { block = a; txs = b; outs = c; ins = d }
 
 -- what an outcome tells, told on
@@ -98,7 +98,7 @@ err_mapped (Err e) p f = f e p
 
 -- 2. With its bounds
 
-module _ (counts : HeadCounts) (bs : List ListedBlock) (l : Lists) (height index : ℕ) (p : PreparedTx) (ready_rows : held.Tables) (left : ℕ) (counted : IsCounted height p l) (between : IsBetween l)
+module _ (counts : HeadCounts) (bs : List ListedBlock) (l : Lists) (height index : ℕ) (p : PreparedTx) (ready_rows : held.Tables) (left : ℕ) (counted : FitsTables height p l) (between : IsBetweenTxs l)
     (ready : ReadyCoins counts bs ready_rows left height p l) where
   abbrev t : ListedTx
   t = listed_after height p l
@@ -119,7 +119,7 @@ module _ (counts : HeadCounts) (bs : List ListedBlock) (l : Lists) (height index
   leads = tx_leads height p l ready.real ready.led real_txs
 
   -- there is room for what comes
-  pub room_ready : HasRoom ready.now 0 (length p.outputs)
+  pub room_ready : HasRoomFor ready.now 0 (length p.outputs)
   room_ready =
       let ins = ap (λ (xs : List ℕ). length xs) ready.ins in
       let joined = length-append l.ins ready.coins in
@@ -200,8 +200,8 @@ module _ (counts : HeadCounts) (bs : List ListedBlock) (l : Lists) (height index
         let same = ap values os_are in
         omega arith
 
-    pub room_touching : HasRoom touching.lists 0 (length os)
-    room_touching = subst (λ (xs : List (ℕ × Hash32)). HasRoom touching.lists 0 (length xs)) (sym os_are) touching.room
+    pub room_touching : HasRoomFor touching.lists 0 (length os)
+    room_touching = subst (λ (xs : List (ℕ × Hash32)). HasRoomFor touching.lists 0 (length xs)) (sym os_are) touching.room
 
     pub few_txs : length touching.lists.txs < row_limit 2
     few_txs =
@@ -212,7 +212,7 @@ module _ (counts : HeadCounts) (bs : List ListedBlock) (l : Lists) (height index
     pub few_scripts : length (made_by row os touching.lists).scripts ≤ row_limit 6
     few_scripts = subst (λ (x : Lists). length x.scripts ≤ row_limit 6) (sym end_is) ready.few
 
-    pub tx_led : (new : held.Tables) (after : ℕ) → Reached counts bs (made_by row os touching.lists) new after → HasRoom (made_by row os touching.lists) 0 0
+    pub tx_led : (new : held.Tables) (after : ℕ) → Reached counts bs (made_by row os touching.lists) new after → HasRoomFor (made_by row os touching.lists) 0 0
         → LedTo counts bs new after (connect_next height index p l) × (after ≤ max_money)
     tx_led new after reached room =
         let few = subst (λ (x : Lists). length x.entries ≤ row_limit 8) end_is room.entries in
@@ -264,7 +264,7 @@ module _ (counts : HeadCounts) (bs : List ListedBlock) (before : Lists) (height 
   Txs rows sum at = LeadingOn counts bs rows sum (λ now. connect_all height 0 ps before ≡ connect_all height at (drop at ps) now)
 
   pub txs_more : (rows new : held.Tables) (sum after at : ℕ) (p : PreparedTx) → at < length ps → p ≡ get_or ps at p → Txs rows sum at
-      → ((now : Lists) → Reached counts bs now rows sum → sum ≤ max_money → IsBetween now → LedTo counts bs new after (connect_next height at p now) × (after ≤ max_money))
+      → ((now : Lists) → Reached counts bs now rows sum → sum ≤ max_money → IsBetweenTxs now → LedTo counts bs new after (connect_next height at p now) × (after ≤ max_money))
       → Txs new after (at + 1)
   txs_more rows new sum after at p lt is inv leads =
       let now = inv.lists in
@@ -275,7 +275,7 @@ module _ (counts : HeadCounts) (bs : List ListedBlock) (before : Lists) (height 
       record { lists = next.0.lists; left = inv.left ∙ step; reached = next.0.reached; between = between_next height at p now next.0.lists led inv.between; within = next.1 }
 
   pub txs_refused : (rows : held.Tables) (sum at : ℕ) (p : PreparedTx) (e : ConnectFault) → at < length ps → p ≡ get_or ps at p → Txs rows sum at
-      → ((now : Lists) → Reached counts bs now rows sum → sum ≤ max_money → IsBetween now
+      → ((now : Lists) → Reached counts bs now rows sum → sum ≤ max_money → IsBetweenTxs now
       → (e ≡ refusal.DiskFailed) ⊎ ((e ≡ refusal.Memory) ⊎ (connect_next height at p now ≡ Err e)))
       → (e ≡ refusal.DiskFailed) ⊎ ((e ≡ refusal.Memory) ⊎ (connect_all height 0 ps before ≡ Err e))
   txs_refused rows sum at p e lt is inv refused = by (refused inv.lists inv.reached inv.within inv.between)

@@ -6,7 +6,7 @@ ghost use Rattle.el_chain.specs.Chains.{Chain, tip};
 ghost use Rattle.el_chain.specs.Faults.{fault};
 ghost use Rattle.el_prepare.specs.Prepared.{prepared};
 ghost use Rattle.el_row_formats.specs.RowBytes.{number_limit, FitsBlockRow};
-ghost use Rattle.el_rows.specs.Transaction.{tables_in, EditsRows, EditsAlone};
+ghost use Rattle.el_rows.specs.Transaction.{with_edits, EditsRows, EditsAlone};
 ghost use Rattle.el_row_formats.specs.declared.table.Table.{Table};
 ghost use Rattle.el_buckets.specs.Faults.{NotAdded};
 ghost use Rattle.el_schema.specs.Rows.{Hold, block_fields};
@@ -59,11 +59,11 @@ fn row_of(
 fn append_block<R: Rows>(t: &mut Txn<'_, R>, row: &BlockRow) -> Result<u64, ConnectFault>
     requires fits { FitsBlockRow row.now }
     ensures appended { (counts : HeadCounts) (bs : List ListedBlock) (l : Lists) (b : ListedBlock) →
-        Hold counts bs l (tables_in t.old) → row.now ≡ block_fields b
-        → OnOk result (Hold counts (bs ++ b ∷ []) l (tables_in t.new)) }
-    ensures more { OnOk result (length (tables_in t.new Table.Blocks)
-        ≡ length (tables_in t.old Table.Blocks) + 1) }
-    ensures fault { IfErr result (NotAdded Table.Blocks (length (tables_in t.old Table.Blocks))) }
+        Hold counts bs l (with_edits t.old) → row.now ≡ block_fields b
+        → OnOk result (Hold counts (bs ++ b ∷ []) l (with_edits t.new)) }
+    ensures more { OnOk result (length (with_edits t.new Table.Blocks)
+        ≡ length (with_edits t.old Table.Blocks) + 1) }
+    ensures fault { IfErr result (NotAdded Table.Blocks (length (with_edits t.old Table.Blocks))) }
     ensures alone { EditsAlone t.old t.new }
 {
     let mut bytes = [0; 116];
@@ -88,17 +88,17 @@ pub fn connect<R: Rows>(t: &mut Txn<'_, R>, b: &Prepared, place: Place) -> Resul
     requires prepared { (block : shape.Block) × HasBlockEncoding block × (b.now ≡ prepared block) }
     // A block without a fault is put after the chain, and no other is.
     ensures connected { (heads : ℕ) (chain : Chain) (block : shape.Block) → R.tells
-        → StandWith heads (tables_in t.old) chain → HasBlockEncoding block → b.now ≡ prepared block
+        → StandWith heads (with_edits t.old) chain → HasBlockEncoding block → b.now ≡ prepared block
         → block.header.previous ≡ tip chain → OnOk result ((fault chain block ≡ None)
-        × StandWith heads (tables_in t.new) (chain ++ record { block = block; place = place } ∷ [])) }
+        × StandWith heads (with_edits t.new) (chain ++ record { block = block; place = place } ∷ [])) }
     // A refused block has that fault, unless the device or memory failed.
-    ensures refused { (chain : Chain) (block : shape.Block) → R.tells → StandFor (tables_in t.old) chain
+    ensures refused { (chain : Chain) (block : shape.Block) → R.tells → StandFor (with_edits t.old) chain
         → HasBlockEncoding block → b.now ≡ prepared block → block.header.previous ≡ tip chain
         → IfErr result (λ e. (e ≡ ConnectFault.DiskFailed)
         ⊎ ((e ≡ ConnectFault.Memory) ⊎ (fault chain block ≡ Some e))) }
     // What follows holds over any rows.
-    ensures more { OnOk result (length (tables_in t.new Table.Blocks)
-        ≡ length (tables_in t.old Table.Blocks) + 1) }
+    ensures more { OnOk result (length (with_edits t.new Table.Blocks)
+        ≡ length (with_edits t.old Table.Blocks) + 1) }
     ensures edits { EditsRows ConnectFault.DiskFailed t.old t.new result }
 {
     let height = t.count(Table::Blocks);

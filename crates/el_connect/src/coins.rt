@@ -1,7 +1,7 @@
 // The coins that a transaction takes, and its faults before it is listed.
 ghost use Rattle.std.specs.Prelude.{◌≡◌, ◌⊎◌, ◌<◌, ◌≤◌, ◌+◌, ℕ, List, [], length, Ok, Err, OnOk, IfOk, IfErr};
 ghost use Rattle.el_chain.specs.RowCounts.{row_limit};
-ghost use Rattle.el_rows.specs.Transaction.{tables_in, EditsRows};
+ghost use Rattle.el_rows.specs.Transaction.{with_edits, EditsRows};
 ghost use Rattle.el_row_formats.specs.declared.table.Table.{Table};
 ghost use Rattle.el_row_formats.specs.RowBytes.{number_limit};
 ghost use Rattle.el_tables.specs.ChainLists.{ListedBlock};
@@ -10,7 +10,7 @@ ghost use Rattle.el_tables.specs.Lists.{Lists, unspent_sum};
 ghost use Rattle.el_tables.specs.Tables.{HeadCounts};
 ghost use Rattle.el_tx.specs.Encoding.{max_money};
 ghost use Rattle.el_schema.specs.Rows.{Hold};
-ghost use Rattle.el_connect.specs.within.Parts.{Reached, IsSmall, IsBetween, IsCounted, connect_next};
+ghost use Rattle.el_connect.specs.within.Parts.{Reached, IsSmall, IsBetweenTxs, FitsTables, connect_next};
 ghost use Rattle.el_connect.specs.within.Full.{TakenBy, TakingOn, FineCoins, ReadyCoins};
 
 use crate::money::check_outputs;
@@ -33,12 +33,12 @@ fn take_coin<R: Rows>(
     requires live { R.is_live t.old.rows.now }
     requires by { by < number_limit }
     ensures taken { (counts : HeadCounts) (bs : List ListedBlock) (l : Lists) → R.tells
-        → Hold counts bs l (tables_in t.old) → 0 < counts.txs
-        → IfOk result (λ value. TakenBy counts bs l (tables_in t.new) o.now by value) }
+        → Hold counts bs l (with_edits t.old) → 0 < counts.txs
+        → IfOk result (λ value. TakenBy counts bs l (with_edits t.new) o.now by value) }
     ensures refused { (counts : HeadCounts) (bs : List ListedBlock) (l : Lists) → R.tells
-        → Hold counts bs l (tables_in t.old) → length l.ins < row_limit 5
+        → Hold counts bs l (with_edits t.old) → length l.ins < row_limit 5
         → IfErr result (λ e. (e ≡ ConnectFault.DiskFailed) ⊎ (e ≡ ConnectFault.Memory)) }
-    ensures blocks { tables_in t.new Table.Blocks ≡ tables_in t.old Table.Blocks }
+    ensures blocks { with_edits t.new Table.Blocks ≡ with_edits t.old Table.Blocks }
     ensures edits { EditsRows ConnectFault.DiskFailed t.old t.new result }
 {
     match spend(t, o, by)? {
@@ -62,17 +62,17 @@ fn take_coins<R: Rows>(
     requires live { R.is_live t.old.rows.now }
     requires by { by < number_limit }
     ensures taken { (counts : HeadCounts) (bs : List ListedBlock) (start before : Lists) → R.tells
-        → Hold counts bs start (tables_in t.old) → 0 < counts.txs → start.txs ≡ before.txs
+        → Hold counts bs start (with_edits t.old) → 0 < counts.txs → start.txs ≡ before.txs
         → start.outs ≡ before.outs → sum ≡ unspent_sum before.outs
-        → IfOk result (λ left. TakingOn counts bs by start before (tables_in t.new) left sum
+        → IfOk result (λ left. TakingOn counts bs by start before (with_edits t.new) left sum
         (length inputs.now) (λ real. spend_all by 0 inputs.now before ≡ Ok real)) }
     ensures missing { (counts : HeadCounts) (bs : List ListedBlock) (start before : Lists) → R.tells
-        → Hold counts bs start (tables_in t.old) → 0 < counts.txs → start.txs ≡ before.txs
+        → Hold counts bs start (with_edits t.old) → 0 < counts.txs → start.txs ≡ before.txs
         → start.outs ≡ before.outs → sum ≡ unspent_sum before.outs
         → length start.ins + length inputs.now ≤ row_limit 5
         → IfErr result (λ e. (e ≡ ConnectFault.DiskFailed) ⊎ ((e ≡ ConnectFault.Memory)
         ⊎ (missing_at index (spend_all by 0 inputs.now before) ≡ Err e))) }
-    ensures blocks { tables_in t.new Table.Blocks ≡ tables_in t.old Table.Blocks }
+    ensures blocks { with_edits t.new Table.Blocks ≡ with_edits t.old Table.Blocks }
     ensures edits { EditsRows ConnectFault.DiskFailed t.old t.new result }
 {
     let mut left = sum;
@@ -96,15 +96,15 @@ pub(crate) fn take_inputs<R: Rows>(
     requires live { R.is_live t.old.rows.now }
     requires small { IsSmall tx.now }
     ensures ready { (counts : HeadCounts) (bs : List ListedBlock) (l : Lists) (height : ℕ) → R.tells
-        → Reached counts bs l (tables_in t.old) sum → sum ≤ max_money → IsBetween l
-        → IsCounted height tx.now l
-        → IfOk result (λ left. ReadyCoins counts bs (tables_in t.new) left height tx.now l) }
+        → Reached counts bs l (with_edits t.old) sum → sum ≤ max_money → IsBetweenTxs l
+        → FitsTables height tx.now l
+        → IfOk result (λ left. ReadyCoins counts bs (with_edits t.new) left height tx.now l) }
     ensures refused { (counts : HeadCounts) (bs : List ListedBlock) (l : Lists) (height : ℕ) → R.tells
-        → Reached counts bs l (tables_in t.old) sum → sum ≤ max_money → IsBetween l
-        → IsCounted height tx.now l
+        → Reached counts bs l (with_edits t.old) sum → sum ≤ max_money → IsBetweenTxs l
+        → FitsTables height tx.now l
         → IfErr result (λ e. (e ≡ ConnectFault.DiskFailed) ⊎ ((e ≡ ConnectFault.Memory)
         ⊎ (connect_next height index tx.now l ≡ Err e))) }
-    ensures blocks { tables_in t.new Table.Blocks ≡ tables_in t.old Table.Blocks }
+    ensures blocks { with_edits t.new Table.Blocks ≡ with_edits t.old Table.Blocks }
     ensures edits { EditsRows ConnectFault.DiskFailed t.old t.new result }
 {
     let by = t.count(Table::Txs);
@@ -125,13 +125,13 @@ pub(crate) fn check_coins<R: Rows>(
     requires live { R.is_live t.old.rows.now }
     requires small { IsSmall tx.now }
     ensures fine { (counts : HeadCounts) (bs : List ListedBlock) (l : Lists) (height : ℕ) → R.tells
-        → Reached counts bs l (tables_in t.old) sum → sum ≤ max_money → IsBetween l
+        → Reached counts bs l (with_edits t.old) sum → sum ≤ max_money → IsBetweenTxs l
         → OnOk result (FineCoins height tx.now l) }
     ensures wrong { (counts : HeadCounts) (bs : List ListedBlock) (l : Lists) (height : ℕ) → R.tells
-        → Reached counts bs l (tables_in t.old) sum → sum ≤ max_money → IsBetween l
+        → Reached counts bs l (with_edits t.old) sum → sum ≤ max_money → IsBetweenTxs l
         → IfErr result (λ e. (e ≡ ConnectFault.DiskFailed) ⊎ ((e ≡ ConnectFault.Memory)
         ⊎ (connect_next height index tx.now l ≡ Err e))) }
-    ensures blocks { tables_in t.new Table.Blocks ≡ tables_in t.old Table.Blocks }
+    ensures blocks { with_edits t.new Table.Blocks ≡ with_edits t.old Table.Blocks }
     ensures edits { EditsRows ConnectFault.DiskFailed t.old t.new result }
 {
     let by = t.count(Table::Txs);

@@ -1,11 +1,11 @@
 // What a coin holds.
 ghost use Rattle.std.specs.Prelude.{◌≡◌, ◌≢◌, ◌<◌, ◌≤◌, ℕ, List, IfOk, IfErr};
-ghost use Rattle.el_rows.specs.Transaction.{tables_in, ReadsRows};
+ghost use Rattle.el_rows.specs.Transaction.{with_edits, ReadsRows};
 ghost use Rattle.el_tables.specs.ChainLists.{ListedBlock};
 ghost use Rattle.el_tables.specs.Lists.{Lists};
 ghost use Rattle.el_tables.specs.Tables.{HeadCounts};
 ghost use Rattle.el_schema.specs.Rows.{Hold};
-ghost use Rattle.el_connect.specs.within.Parts.{coin_value};
+ghost use Rattle.el_connect.specs.within.Parts.{coin_amount};
 
 use el_chain::ConnectFault;
 use el_row_formats::{OutRow, State};
@@ -32,8 +32,8 @@ pub(crate) fn coin_held<R: Rows>(
 ) -> Result<u64, ConnectFault>
     requires live { R.is_live t.old.rows.now }
     ensures value { (counts : HeadCounts) (bs : List ListedBlock) (l : Lists) → R.tells
-        → Hold counts bs l (tables_in t.old) → 0 < counts.txs
-        → IfOk result (λ value. value ≡ coin_value o.now below l) }
+        → Hold counts bs l (with_edits t.old) → 0 < counts.txs
+        → IfOk result (λ value. value ≡ coin_amount o.now below l) }
     ensures fault { IfErr result (λ e. e ≡ ConnectFault.DiskFailed) }
     ensures read { ReadsRows ConnectFault.DiskFailed t.old t.new result }
 {

@@ -1,7 +1,7 @@
 // What all coins hold after a transaction, before its outputs are made.
 ghost use Rattle.std.specs.Prelude.{◌≡◌, ◌⊎◌, ◌<◌, ◌≤◌, ◌+◌, ◌^◌, ℕ, List, length, None, Some, OnOk, IfOk, IfErr, MatchResult};
 ghost use Rattle.el_chain.specs.Faults.{money_fault};
-ghost use Rattle.el_rows.specs.Transaction.{tables_in, ReadsRows};
+ghost use Rattle.el_rows.specs.Transaction.{with_edits, ReadsRows};
 ghost use Rattle.el_tables.specs.ChainLists.{ListedBlock};
 ghost use Rattle.el_tables.specs.Connecting.{fund_all};
 ghost use Rattle.el_tables.specs.Lists.{Lists, unspent_sum};
@@ -9,7 +9,7 @@ ghost use Rattle.el_tables.specs.Tables.{HeadCounts};
 ghost use Rattle.el_tx.specs.Encoding.{max_money};
 ghost use Rattle.el_schema.specs.Rows.{Hold};
 ghost use Rattle.el_connect.specs.within.Parts.{IsSmall, OutsInTurn, values};
-ghost use Rattle.el_connect.specs.within.Full.{IsNext};
+ghost use Rattle.el_connect.specs.within.Full.{IsNextTx};
 
 use crate::held::coin_held;
 use el_base::Hash32;
@@ -54,8 +54,8 @@ fn sum_after<R: Rows>(
     requires live { R.is_live t.old.rows.now }
     requires few { length outputs.now < 2 ^ 32 }
     ensures sum { (counts : HeadCounts) (bs : List ListedBlock) (l next : Lists) → R.tells
-        → Hold counts bs l (tables_in t.old) → 0 < counts.txs → OutsInTurn 0 l.txs (length l.outs)
-        → IsNext l next number txid.now → left ≡ unspent_sum l.outs → left + values outputs.now < 2 ^ 64
+        → Hold counts bs l (with_edits t.old) → 0 < counts.txs → OutsInTurn 0 l.txs (length l.outs)
+        → IsNextTx l next number txid.now → left ≡ unspent_sum l.outs → left + values outputs.now < 2 ^ 64
         → IfOk result (λ after. after ≡ unspent_sum (fund_all number 0 outputs.now next).outs) }
     ensures fault { IfErr result (λ e. e ≡ ConnectFault.DiskFailed) }
     ensures read { ReadsRows ConnectFault.DiskFailed t.old t.new result }
@@ -83,12 +83,12 @@ pub(crate) fn check_outputs<R: Rows>(
     requires live { R.is_live t.old.rows.now }
     requires small { IsSmall tx.now }
     ensures fine { (counts : HeadCounts) (bs : List ListedBlock) (l next : Lists) → R.tells
-        → Hold counts bs l (tables_in t.old) → 0 < counts.txs → OutsInTurn 0 l.txs (length l.outs)
-        → IsNext l next number tx.now.txid → left ≡ unspent_sum l.outs → left ≤ max_money
+        → Hold counts bs l (with_edits t.old) → 0 < counts.txs → OutsInTurn 0 l.txs (length l.outs)
+        → IsNextTx l next number tx.now.txid → left ≡ unspent_sum l.outs → left ≤ max_money
         → OnOk result (money_fault (unspent_sum (fund_all number 0 tx.now.outputs next).outs) ≡ None) }
     ensures wrong { (counts : HeadCounts) (bs : List ListedBlock) (l next : Lists) → R.tells
-        → Hold counts bs l (tables_in t.old) → 0 < counts.txs → OutsInTurn 0 l.txs (length l.outs)
-        → IsNext l next number tx.now.txid → left ≡ unspent_sum l.outs → left ≤ max_money
+        → Hold counts bs l (with_edits t.old) → 0 < counts.txs → OutsInTurn 0 l.txs (length l.outs)
+        → IsNextTx l next number tx.now.txid → left ≡ unspent_sum l.outs → left ≤ max_money
         → IfErr result (λ e. (e ≡ ConnectFault.DiskFailed)
         ⊎ (money_fault (unspent_sum (fund_all number 0 tx.now.outputs next).outs) ≡ Some e)) }
     ensures read { ReadsRows ConnectFault.DiskFailed t.old t.new result }

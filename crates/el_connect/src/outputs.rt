@@ -1,7 +1,7 @@
 // The outputs of a transaction.
 ghost use Rattle.std.specs.Prelude.{◌≡◌, ◌⊎◌, ◌<◌, ◌≤◌, ◌+◌, ◌^◌, ℕ, List, length, OnOk, IfOk, IfErr};
 ghost use Rattle.el_chain.specs.RowCounts.{row_limit};
-ghost use Rattle.el_rows.specs.Transaction.{tables_in, ReadsRows, EditsRows};
+ghost use Rattle.el_rows.specs.Transaction.{with_edits, ReadsRows, EditsRows};
 ghost use Rattle.el_row_formats.specs.declared.table.Table.{Table};
 ghost use Rattle.el_row_formats.specs.RowBytes.{number_limit};
 ghost use Rattle.el_tables.specs.ChainLists.{ListedBlock};
@@ -9,7 +9,7 @@ ghost use Rattle.el_tables.specs.Connecting.{fund, fund_all};
 ghost use Rattle.el_tables.specs.Lists.{Lists, replaced, unspent_sum};
 ghost use Rattle.el_tables.specs.Tables.{HeadCounts};
 ghost use Rattle.el_schema.specs.Rows.{Hold};
-ghost use Rattle.el_connect.specs.within.Parts.{Reached, HasRoom, IsMaker, Overflows, value_of, values};
+ghost use Rattle.el_connect.specs.within.Parts.{Reached, HasRoomFor, IsMaker, Overflows, output_amount, values};
 
 use crate::held::coin_held;
 use el_base::Hash32;
@@ -40,8 +40,8 @@ fn value_replaced<R: Rows>(
 ) -> Result<u64, ConnectFault>
     requires live { R.is_live t.old.rows.now }
     ensures value { (counts : HeadCounts) (bs : List ListedBlock) (l : Lists) → R.tells
-        → Hold counts bs l (tables_in t.old) → 0 < counts.txs → IsMaker maker.now l
-        → IfOk result (λ value. value ≡ value_of (replaced maker.now.number index l) l.outs) }
+        → Hold counts bs l (with_edits t.old) → 0 < counts.txs → IsMaker maker.now l
+        → IfOk result (λ value. value ≡ output_amount (replaced maker.now.number index l) l.outs) }
     ensures fault { IfErr result (λ e. e ≡ ConnectFault.DiskFailed) }
     ensures read { ReadsRows ConnectFault.DiskFailed t.old t.new result }
 {
@@ -67,19 +67,19 @@ fn fund_output<R: Rows>(
     requires live { R.is_live t.old.rows.now }
     requires number { maker.now.number < number_limit }
     ensures funded { (counts : HeadCounts) (bs : List ListedBlock) (l : Lists) → R.tells
-        → Reached counts bs l (tables_in t.old) sum → IsMaker maker.now l
+        → Reached counts bs l (with_edits t.old) sum → IsMaker maker.now l
         → unspent_sum l.outs + output.now.0 < 2 ^ 64
         → IfOk result (λ after.
-        Reached counts bs (fund maker.now.number index output.now l) (tables_in t.new) after) }
+        Reached counts bs (fund maker.now.number index output.now l) (with_edits t.new) after) }
     ensures room { (counts : HeadCounts) (bs : List ListedBlock) (l : Lists) (n : ℕ) → R.tells
-        → Reached counts bs l (tables_in t.old) sum → HasRoom l 0 (n + 1)
-        → OnOk result (HasRoom (fund maker.now.number index output.now l) 0 n) }
+        → Reached counts bs l (with_edits t.old) sum → HasRoomFor l 0 (n + 1)
+        → OnOk result (HasRoomFor (fund maker.now.number index output.now l) 0 n) }
     ensures refused { (counts : HeadCounts) (bs : List ListedBlock) (l : Lists) (n : ℕ) → R.tells
-        → Reached counts bs l (tables_in t.old) sum → HasRoom l 0 (n + 1)
+        → Reached counts bs l (with_edits t.old) sum → HasRoomFor l 0 (n + 1)
         → length (fund maker.now.number index output.now l).scripts ≤ row_limit 6
         → IfErr result (λ e. (e ≡ ConnectFault.DiskFailed) ⊎ ((e ≡ ConnectFault.Memory)
         ⊎ Overflows (fund maker.now.number index output.now l) e)) }
-    ensures blocks { tables_in t.new Table.Blocks ≡ tables_in t.old Table.Blocks }
+    ensures blocks { with_edits t.new Table.Blocks ≡ with_edits t.old Table.Blocks }
     ensures edits { EditsRows ConnectFault.DiskFailed t.old t.new result }
 {
     let (value, hash) = *output;
@@ -101,21 +101,21 @@ pub(crate) fn fund_outputs<R: Rows>(
     requires number { maker.now.number < number_limit }
     requires few { length outputs.now < 2 ^ 32 }
     ensures funded { (counts : HeadCounts) (bs : List ListedBlock) (l : Lists) → R.tells
-        → Reached counts bs l (tables_in t.old) sum → IsMaker maker.now l
-        → HasRoom l 0 (length outputs.now) → unspent_sum l.outs + values outputs.now < 2 ^ 64
+        → Reached counts bs l (with_edits t.old) sum → IsMaker maker.now l
+        → HasRoomFor l 0 (length outputs.now) → unspent_sum l.outs + values outputs.now < 2 ^ 64
         → IfOk result (λ after.
-        Reached counts bs (fund_all maker.now.number 0 outputs.now l) (tables_in t.new) after) }
+        Reached counts bs (fund_all maker.now.number 0 outputs.now l) (with_edits t.new) after) }
     ensures room { (counts : HeadCounts) (bs : List ListedBlock) (l : Lists) → R.tells
-        → Reached counts bs l (tables_in t.old) sum → IsMaker maker.now l
-        → HasRoom l 0 (length outputs.now) → unspent_sum l.outs + values outputs.now < 2 ^ 64
-        → OnOk result (HasRoom (fund_all maker.now.number 0 outputs.now l) 0 0) }
+        → Reached counts bs l (with_edits t.old) sum → IsMaker maker.now l
+        → HasRoomFor l 0 (length outputs.now) → unspent_sum l.outs + values outputs.now < 2 ^ 64
+        → OnOk result (HasRoomFor (fund_all maker.now.number 0 outputs.now l) 0 0) }
     ensures refused { (counts : HeadCounts) (bs : List ListedBlock) (l : Lists) → R.tells
-        → Reached counts bs l (tables_in t.old) sum → IsMaker maker.now l
-        → HasRoom l 0 (length outputs.now) → unspent_sum l.outs + values outputs.now < 2 ^ 64
+        → Reached counts bs l (with_edits t.old) sum → IsMaker maker.now l
+        → HasRoomFor l 0 (length outputs.now) → unspent_sum l.outs + values outputs.now < 2 ^ 64
         → length (fund_all maker.now.number 0 outputs.now l).scripts ≤ row_limit 6
         → IfErr result (λ e. (e ≡ ConnectFault.DiskFailed) ⊎ ((e ≡ ConnectFault.Memory)
         ⊎ Overflows (fund_all maker.now.number 0 outputs.now l) e)) }
-    ensures blocks { tables_in t.new Table.Blocks ≡ tables_in t.old Table.Blocks }
+    ensures blocks { with_edits t.new Table.Blocks ≡ with_edits t.old Table.Blocks }
     ensures edits { EditsRows ConnectFault.DiskFailed t.old t.new result }
 {
     let mut after = sum;

@@ -1,6 +1,6 @@
 // What single rows tell.
 ghost use Rattle.std.specs.Prelude.{◌≡◌, ◌<◌, ◌≤◌, List, [], ◌∷◌, ◌++◌, length, get_or, take, IfOk, IfErr};
-ghost use Rattle.el_rows.specs.Transaction.{tables_in, ReadsRows};
+ghost use Rattle.el_rows.specs.Transaction.{with_edits, ReadsRows};
 ghost use Rattle.el_row_formats.specs.declared.table.Table.{Table};
 ghost use Rattle.el_tables.specs.ChainLists.{ListedBlock};
 ghost use Rattle.el_tables.specs.Edits.{no_out};
@@ -16,9 +16,9 @@ use el_schema::{block_row, in_row, out_row, tx_row};
 // The value of the output of that number.
 pub(crate) fn output_value<R: Rows>(t: &mut Txn<'_, R>, k: u64) -> Result<u64, ConnectFault>
     requires live { R.is_live t.old.rows.now }
-    requires below { k < length (tables_in t.old Table.Outs) }
+    requires below { k < length (with_edits t.old Table.Outs) }
     ensures value { (counts : HeadCounts) (bs : List ListedBlock) (l : Lists) → R.tells
-        → Hold counts bs l (tables_in t.old) → IfOk result (λ v. v ≡ (get_or l.outs k no_out).value) }
+        → Hold counts bs l (with_edits t.old) → IfOk result (λ v. v ≡ (get_or l.outs k no_out).value) }
     ensures fault { IfErr result (λ e. e ≡ ConnectFault.DiskFailed) }
     ensures read { ReadsRows ConnectFault.DiskFailed t.old t.new result }
 {
@@ -30,7 +30,7 @@ pub(crate) fn output_value<R: Rows>(t: &mut Txn<'_, R>, k: u64) -> Result<u64, C
 pub(crate) fn input_coin<R: Rows>(t: &mut Txn<'_, R>, n: u64) -> Result<u64, ConnectFault>
     requires live { R.is_live t.old.rows.now }
     ensures coin { (counts : HeadCounts) (bs : List ListedBlock) (l : Lists) → R.tells
-        → Hold counts bs l (tables_in t.old) → IfOk result (λ k. k ≡ get_or l.ins n 0) }
+        → Hold counts bs l (with_edits t.old) → IfOk result (λ k. k ≡ get_or l.ins n 0) }
     ensures fault { IfErr result (λ e. e ≡ ConnectFault.DiskFailed) }
     ensures read { ReadsRows ConnectFault.DiskFailed t.old t.new result }
 {
@@ -45,7 +45,7 @@ pub(crate) fn input_coin<R: Rows>(t: &mut Txn<'_, R>, n: u64) -> Result<u64, Con
 pub(crate) fn script_number<R: Rows>(t: &mut Txn<'_, R>, k: u64) -> Result<u64, ConnectFault>
     requires live { R.is_live t.old.rows.now }
     ensures script { (counts : HeadCounts) (bs : List ListedBlock) (l : Lists) → R.tells
-        → Hold counts bs l (tables_in t.old) → IfOk result (λ n. n ≡ script_at k l.outs) }
+        → Hold counts bs l (with_edits t.old) → IfOk result (λ n. n ≡ script_at k l.outs) }
     ensures fault { IfErr result (λ e. e ≡ ConnectFault.DiskFailed) }
     ensures read { ReadsRows ConnectFault.DiskFailed t.old t.new result }
 {
@@ -59,9 +59,9 @@ pub(crate) fn script_number<R: Rows>(t: &mut Txn<'_, R>, k: u64) -> Result<u64, 
 // The newest transaction with the same txid before that of that number.
 pub(crate) fn older_tx<R: Rows>(t: &mut Txn<'_, R>, n: u64) -> Result<Option<u64>, ConnectFault>
     requires live { R.is_live t.old.rows.now }
-    requires below { n < length (tables_in t.old Table.Txs) }
+    requires below { n < length (with_edits t.old Table.Txs) }
     ensures older { (counts : HeadCounts) (bs : List ListedBlock) (l : Lists) → R.tells
-        → Hold counts bs l (tables_in t.old)
+        → Hold counts bs l (with_edits t.old)
         → IfOk result (λ older. older ≡ newest_tx (txid_at n l.txs) (take n l.txs)) }
     ensures fault { IfErr result (λ e. e ≡ ConnectFault.DiskFailed) }
     ensures read { ReadsRows ConnectFault.DiskFailed t.old t.new result }
@@ -73,9 +73,9 @@ pub(crate) fn older_tx<R: Rows>(t: &mut Txn<'_, R>, n: u64) -> Result<Option<u64
 // What all coins hold after the last block, and 0 where there is none.
 pub(crate) fn last_sum<R: Rows>(t: &mut Txn<'_, R>) -> Result<u64, ConnectFault>
     requires live { R.is_live t.old.rows.now }
-    ensures none { length (tables_in t.old Table.Blocks) ≡ 0 → IfOk result (λ sum. sum ≡ 0) }
+    ensures none { length (with_edits t.old Table.Blocks) ≡ 0 → IfOk result (λ sum. sum ≡ 0) }
     ensures sum { (counts : HeadCounts) (bs : List ListedBlock) (b : ListedBlock) (l : Lists) → R.tells
-        → Hold counts (bs ++ b ∷ []) l (tables_in t.old) → IfOk result (λ sum. sum ≡ b.sum) }
+        → Hold counts (bs ++ b ∷ []) l (with_edits t.old) → IfOk result (λ sum. sum ≡ b.sum) }
     ensures fault { IfErr result (λ e. e ≡ ConnectFault.DiskFailed) }
     ensures read { ReadsRows ConnectFault.DiskFailed t.old t.new result }
 {

@@ -2,7 +2,7 @@
 ghost use Rattle.std.specs.Prelude.{◌≡◌, ◌≢◌, ◌<◌, ◌≤◌, ◌+◌, List, length, Some, OnOk, IfErr, MatchResult};
 ghost use Rattle.el_chain.specs.RowCounts.{row_limit};
 ghost use Rattle.el_row_formats.specs.Tables.{number_of, limit_of};
-ghost use Rattle.el_rows.specs.Transaction.{tables_in};
+ghost use Rattle.el_rows.specs.Transaction.{with_edits};
 ghost use Rattle.el_row_formats.specs.declared.table.Table.{Table};
 ghost use Rattle.el_tables.specs.ChainLists.{ListedBlock};
 ghost use Rattle.el_tables.specs.Connecting.{full_by};
@@ -40,15 +40,15 @@ pub(crate) fn check_counted<R: Rows>(
     requires { IsSmall tx.now }
     ensures block { OnOk result (height < row_limit 1) }
     ensures tx { (counts : HeadCounts) (bs : List ListedBlock) (l : Lists)
-        → Hold counts bs l (tables_in t.now) → OnOk result (length l.txs < row_limit 2) }
+        → Hold counts bs l (with_edits t.now) → OnOk result (length l.txs < row_limit 2) }
     ensures outs { (counts : HeadCounts) (bs : List ListedBlock) (l : Lists)
-        → Hold counts bs l (tables_in t.now)
+        → Hold counts bs l (with_edits t.now)
         → OnOk result (length l.outs + length tx.now.outputs ≤ row_limit 4) }
     ensures ins { (counts : HeadCounts) (bs : List ListedBlock) (l : Lists)
-        → Hold counts bs l (tables_in t.now)
+        → Hold counts bs l (with_edits t.now)
         → OnOk result (length l.ins + length tx.now.inputs ≤ row_limit 5) }
     ensures full { (counts : HeadCounts) (bs : List ListedBlock) (l after : Lists)
-        → Hold counts bs l (tables_in t.now) → length after.txs ≡ length l.txs + 1
+        → Hold counts bs l (with_edits t.now) → length after.txs ≡ length l.txs + 1
         → length after.outs ≡ length l.outs + length tx.now.outputs
         → length after.ins ≡ length l.ins + length tx.now.inputs
         → IfErr result (λ e. full_by height after ≡ Some e) }

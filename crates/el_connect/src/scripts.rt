@@ -1,13 +1,13 @@
 // Room for the script hashes of outputs.
 ghost use Rattle.std.specs.Prelude.{◌≡◌, ◌⊎◌, ◌<◌, ◌≤◌, ◌+◌, ◌^◌, ℕ, List, length, OnOk, IfOk, IfErr};
-ghost use Rattle.el_chain.specs.RowCounts.{row_limit, has_script, add_script, add_scripts};
-ghost use Rattle.el_rows.specs.Transaction.{tables_in, ReadsRows};
+ghost use Rattle.el_chain.specs.RowCounts.{row_limit, is_script_among, add_script, add_scripts};
+ghost use Rattle.el_rows.specs.Transaction.{with_edits, ReadsRows};
 ghost use Rattle.el_tables.specs.ChainLists.{ListedBlock};
 ghost use Rattle.el_tables.specs.Fits.{Fits};
 ghost use Rattle.el_tables.specs.Lists.{Lists};
 ghost use Rattle.el_tables.specs.Tables.{HeadCounts};
 ghost use Rattle.el_schema.specs.Rows.{Hold};
-ghost use Rattle.el_connect.specs.within.Parts.{scripts_of};
+ghost use Rattle.el_connect.specs.within.Parts.{output_scripts};
 
 use crate::room::check_table;
 use el_base::Hash32;
@@ -18,7 +18,7 @@ use el_script::find_script;
 
 // Whether one of the outputs has that script hash.
 fn is_among(outputs: &[(u64, Hash32)], hash: &Hash32) -> bool
-    ensures { result ≡ has_script hash.now (scripts_of outputs.now) }
+    ensures { result ≡ is_script_among hash.now (output_scripts outputs.now) }
 {
     for output in outputs {
         if output.1 == *hash {
@@ -37,9 +37,9 @@ fn rows_for<R: Rows>(
 ) -> Result<u64, ConnectFault>
     requires live { R.is_live t.old.rows.now }
     ensures rows { (counts : HeadCounts) (bs : List ListedBlock) (l : Lists) → R.tells
-        → Hold counts bs l (tables_in t.old) → Fits l → 0 < counts.scripts
-        → IfOk result (λ n. length (add_scripts l.scripts (scripts_of before.now)) + n
-        ≡ length (add_script hash.now (add_scripts l.scripts (scripts_of before.now)))) }
+        → Hold counts bs l (with_edits t.old) → Fits l → 0 < counts.scripts
+        → IfOk result (λ n. length (add_scripts l.scripts (output_scripts before.now)) + n
+        ≡ length (add_script hash.now (add_scripts l.scripts (output_scripts before.now)))) }
     ensures few { IfOk result (λ n. n ≤ 1) }
     ensures fault { IfErr result (λ e. e ≡ ConnectFault.DiskFailed) }
     ensures read { ReadsRows ConnectFault.DiskFailed t.old t.new result }
@@ -61,9 +61,9 @@ fn new_scripts<R: Rows>(t: &mut Txn<'_, R>, outputs: &[(u64, Hash32)]) -> Result
     requires live { R.is_live t.old.rows.now }
     requires few { length outputs.now < 2 ^ 32 }
     ensures new { (counts : HeadCounts) (bs : List ListedBlock) (l : Lists) → R.tells
-        → Hold counts bs l (tables_in t.old) → Fits l → 0 < counts.scripts
+        → Hold counts bs l (with_edits t.old) → Fits l → 0 < counts.scripts
         → IfOk result (λ new. length l.scripts + new
-        ≡ length (add_scripts l.scripts (scripts_of outputs.now))) }
+        ≡ length (add_scripts l.scripts (output_scripts outputs.now))) }
     ensures few { IfOk result (λ new. new ≤ length outputs.now) }
     ensures fault { IfErr result (λ e. e ≡ ConnectFault.DiskFailed) }
     ensures read { ReadsRows ConnectFault.DiskFailed t.old t.new result }
@@ -84,12 +84,12 @@ pub(crate) fn check_scripts<R: Rows>(
     requires live { R.is_live t.old.rows.now }
     requires few { length outputs.now < 2 ^ 32 }
     ensures fits { (counts : HeadCounts) (bs : List ListedBlock) (l : Lists) → R.tells
-        → Hold counts bs l (tables_in t.old) → Fits l → 0 < counts.scripts
-        → OnOk result (length (add_scripts l.scripts (scripts_of outputs.now)) ≤ row_limit 6) }
+        → Hold counts bs l (with_edits t.old) → Fits l → 0 < counts.scripts
+        → OnOk result (length (add_scripts l.scripts (output_scripts outputs.now)) ≤ row_limit 6) }
     ensures full { (counts : HeadCounts) (bs : List ListedBlock) (l : Lists) → R.tells
-        → Hold counts bs l (tables_in t.old) → Fits l → 0 < counts.scripts
+        → Hold counts bs l (with_edits t.old) → Fits l → 0 < counts.scripts
         → IfErr result (λ e. (e ≡ ConnectFault.DiskFailed) ⊎ ((e ≡ ConnectFault.Full 6 (row_limit 6))
-        × (row_limit 6 < length (add_scripts l.scripts (scripts_of outputs.now))))) }
+        × (row_limit 6 < length (add_scripts l.scripts (output_scripts outputs.now))))) }
     ensures read { ReadsRows ConnectFault.DiskFailed t.old t.new result }
 {
     let count = t.count(Table::Scripts);

@@ -2,7 +2,7 @@
 ghost use Rattle.std.specs.Prelude.{◌≡◌, ◌⊎◌, ◌<◌, ◌≤◌, ◌+◌, ◌^◌, ℕ, List, length, Ok, Err, OnOk, IfOk, IfErr};
 ghost use Rattle.std.specs.List.{AllByRecursion};
 ghost use Rattle.el_chain.specs.RowCounts.{row_limit};
-ghost use Rattle.el_rows.specs.Transaction.{tables_in, EditsRows};
+ghost use Rattle.el_rows.specs.Transaction.{with_edits, EditsRows};
 ghost use Rattle.el_row_formats.specs.declared.table.Table.{Table};
 ghost use Rattle.el_tables.specs.ChainLists.{ListedBlock};
 ghost use Rattle.el_tables.specs.Connecting.{listed_after};
@@ -11,7 +11,7 @@ ghost use Rattle.el_schema.specs.Rows.{listed_tx};
 ghost use Rattle.el_tables.specs.Lists.{Lists, unspent_sum};
 ghost use Rattle.el_tables.specs.Tables.{HeadCounts};
 ghost use Rattle.el_tx.specs.Encoding.{max_money};
-ghost use Rattle.el_connect.specs.within.Parts.{Reached, HasRoom, IsSmall, IsBetween, IsCounted, LedTo, Overflows, connect_next, connect_all, made_by, values};
+ghost use Rattle.el_connect.specs.within.Parts.{Reached, HasRoomFor, IsSmall, IsBetweenTxs, FitsTables, LedTo, Overflows, connect_next, connect_all, made_by, values};
 
 use crate::coins::{check_coins, take_inputs};
 use crate::inputs::touch_inputs;
@@ -61,21 +61,21 @@ fn make_outputs<R: Rows>(
     requires fits { FitsTxRow row.now }
     requires few { length outputs.now < 2 ^ 32 }
     ensures made { (counts : HeadCounts) (bs : List ListedBlock) (l : Lists) → R.tells
-        → Reached counts bs l (tables_in t.old) left → HasRoom l 0 (length outputs.now)
+        → Reached counts bs l (with_edits t.old) left → HasRoomFor l 0 (length outputs.now)
         → unspent_sum l.outs + values outputs.now < 2 ^ 64
         → IfOk result (λ after.
-        Reached counts bs (made_by (listed_tx row.now) outputs.now l) (tables_in t.new) after) }
+        Reached counts bs (made_by (listed_tx row.now) outputs.now l) (with_edits t.new) after) }
     ensures room { (counts : HeadCounts) (bs : List ListedBlock) (l : Lists) → R.tells
-        → Reached counts bs l (tables_in t.old) left → HasRoom l 0 (length outputs.now)
+        → Reached counts bs l (with_edits t.old) left → HasRoomFor l 0 (length outputs.now)
         → unspent_sum l.outs + values outputs.now < 2 ^ 64
-        → OnOk result (HasRoom (made_by (listed_tx row.now) outputs.now l) 0 0) }
+        → OnOk result (HasRoomFor (made_by (listed_tx row.now) outputs.now l) 0 0) }
     ensures refused { (counts : HeadCounts) (bs : List ListedBlock) (l : Lists) → R.tells
-        → Reached counts bs l (tables_in t.old) left → HasRoom l 0 (length outputs.now)
+        → Reached counts bs l (with_edits t.old) left → HasRoomFor l 0 (length outputs.now)
         → unspent_sum l.outs + values outputs.now < 2 ^ 64 → length l.txs < row_limit 2
         → length (made_by (listed_tx row.now) outputs.now l).scripts ≤ row_limit 6
         → IfErr result (λ e. (e ≡ ConnectFault.DiskFailed) ⊎ ((e ≡ ConnectFault.Memory)
         ⊎ Overflows (made_by (listed_tx row.now) outputs.now l) e)) }
-    ensures blocks { tables_in t.new Table.Blocks ≡ tables_in t.old Table.Blocks }
+    ensures blocks { with_edits t.new Table.Blocks ≡ with_edits t.old Table.Blocks }
     ensures edits { EditsRows ConnectFault.DiskFailed t.old t.new result }
 {
     let number = add_tx(t, row)?;
@@ -102,16 +102,16 @@ fn put_tx<R: Rows>(
     requires live { R.is_live t.old.rows.now }
     requires small { IsSmall tx.now }
     ensures connected { (counts : HeadCounts) (bs : List ListedBlock) (l : Lists) → R.tells
-        → Reached counts bs l (tables_in t.old) sum → sum ≤ max_money → IsBetween l
-        → IsCounted height tx.now l
-        → IfOk result (λ after. LedTo counts bs (tables_in t.new) after (connect_next height index tx.now l)
+        → Reached counts bs l (with_edits t.old) sum → sum ≤ max_money → IsBetweenTxs l
+        → FitsTables height tx.now l
+        → IfOk result (λ after. LedTo counts bs (with_edits t.new) after (connect_next height index tx.now l)
         × (after ≤ max_money)) }
     ensures refused { (counts : HeadCounts) (bs : List ListedBlock) (l : Lists) → R.tells
-        → Reached counts bs l (tables_in t.old) sum → sum ≤ max_money → IsBetween l
-        → IsCounted height tx.now l
+        → Reached counts bs l (with_edits t.old) sum → sum ≤ max_money → IsBetweenTxs l
+        → FitsTables height tx.now l
         → IfErr result (λ e. (e ≡ ConnectFault.DiskFailed) ⊎ ((e ≡ ConnectFault.Memory)
         ⊎ (connect_next height index tx.now l ≡ Err e))) }
-    ensures blocks { tables_in t.new Table.Blocks ≡ tables_in t.old Table.Blocks }
+    ensures blocks { with_edits t.new Table.Blocks ≡ with_edits t.old Table.Blocks }
     ensures edits { EditsRows ConnectFault.DiskFailed t.old t.new result }
 {
     let first_in = t.count(Table::Ins);
@@ -134,14 +134,14 @@ fn connect_tx<R: Rows>(
     requires live { R.is_live t.old.rows.now }
     requires small { IsSmall tx.now }
     ensures connected { (counts : HeadCounts) (bs : List ListedBlock) (l : Lists) → R.tells
-        → Reached counts bs l (tables_in t.old) sum → sum ≤ max_money → IsBetween l
-        → IfOk result (λ after. LedTo counts bs (tables_in t.new) after (connect_next height index tx.now l)
+        → Reached counts bs l (with_edits t.old) sum → sum ≤ max_money → IsBetweenTxs l
+        → IfOk result (λ after. LedTo counts bs (with_edits t.new) after (connect_next height index tx.now l)
         × (after ≤ max_money)) }
     ensures refused { (counts : HeadCounts) (bs : List ListedBlock) (l : Lists) → R.tells
-        → Reached counts bs l (tables_in t.old) sum → sum ≤ max_money → IsBetween l
+        → Reached counts bs l (with_edits t.old) sum → sum ≤ max_money → IsBetweenTxs l
         → IfErr result (λ e. (e ≡ ConnectFault.DiskFailed) ⊎ ((e ≡ ConnectFault.Memory)
         ⊎ (connect_next height index tx.now l ≡ Err e))) }
-    ensures blocks { tables_in t.new Table.Blocks ≡ tables_in t.old Table.Blocks }
+    ensures blocks { with_edits t.new Table.Blocks ≡ with_edits t.old Table.Blocks }
     ensures edits { EditsRows ConnectFault.DiskFailed t.old t.new result }
 {
     match check_counted(t, height, tx) {
@@ -164,14 +164,14 @@ pub(crate) fn connect_txs<R: Rows>(
     requires live { R.is_live t.old.rows.now }
     requires small { AllByRecursion IsSmall txs.now }
     ensures connected { (counts : HeadCounts) (bs : List ListedBlock) (l : Lists) → R.tells
-        → Reached counts bs l (tables_in t.old) sum → sum ≤ max_money → IsBetween l
-        → IfOk result (λ after. LedTo counts bs (tables_in t.new) after (connect_all height 0 txs.now l)
+        → Reached counts bs l (with_edits t.old) sum → sum ≤ max_money → IsBetweenTxs l
+        → IfOk result (λ after. LedTo counts bs (with_edits t.new) after (connect_all height 0 txs.now l)
         × (after ≤ max_money)) }
     ensures refused { (counts : HeadCounts) (bs : List ListedBlock) (l : Lists) → R.tells
-        → Reached counts bs l (tables_in t.old) sum → sum ≤ max_money → IsBetween l
+        → Reached counts bs l (with_edits t.old) sum → sum ≤ max_money → IsBetweenTxs l
         → IfErr result (λ e. (e ≡ ConnectFault.DiskFailed) ⊎ ((e ≡ ConnectFault.Memory)
         ⊎ (connect_all height 0 txs.now l ≡ Err e))) }
-    ensures blocks { tables_in t.new Table.Blocks ≡ tables_in t.old Table.Blocks }
+    ensures blocks { with_edits t.new Table.Blocks ≡ with_edits t.old Table.Blocks }
     ensures edits { EditsRows ConnectFault.DiskFailed t.old t.new result }
 {
     let mut after = sum;

@@ -13,13 +13,13 @@ use Rattle.el_world.specs.World.{World, Session, Event, new_session, IsStill, Al
 use Rattle.el_world.specs.Run as run
 use Rattle.el_world.specs.Run.{Turns}
 use Rattle.el_lines.proofs.Cuts.{either, pieces}
-use Rattle.el_lines.specs.LineStates.{IsAt}
+use Rattle.el_lines.specs.LineStates.{WasFed}
 use Rattle.el_fees.specs.Tables.{IsTableOf}
 use Rattle.el_side.specs.Caching.{CachesStand}
 use Rattle.el_relay.specs.Desk.{empty_desk}
 use Rattle.el_core.specs.State.{State, ClientState, IsIdle, IsMet, HearsLeft, in_order, losing, IsSession, Rising, SessionsAre, Tellings, NoneWaits, NodeLeaves, Stands, is_numbered}
 use Rattle.el_core.specs.Arrivals.{TookArrival, IsAfterArrival, Quietly, none, joined, departed, gone_from}
-use Rattle.el_core.specs.within.Clients.{IsFresh, Opens, node, joins as adds, one_more, Hears, nobody, client, Keeps, IsFed, IsPlace, replaced}
+use Rattle.el_core.specs.within.Clients.{IsNewClient, Opens, node, joins as adds, one_more, Hears, nobody, client, KeepsBytes, IsFed, IsClientPlace, client_replaced}
 use Rattle.el_core.proofs.Places.{not_same, no_some, zip_at, zip_replaced, rising_replaced, rising_more, all_at, all_map, all_replaced, one_mapped, one_there, none_mapped}
 use Rattle.el_core.proofs.Tellings.{none_waits}
 use Rattle.el_core.proofs.Sessions.{said_all, gone_stands, zip_push, zip_length, zip_all}
@@ -54,7 +54,7 @@ all_given ls given few none_left =
     let d = length-drop given ls in
     omega arith
 
-new_session_is : (p : ℕ) (c : ClientState) → IsFresh p c → IsSession None [] c (new_session p)
+new_session_is : (p : ℕ) (c : ClientState) → IsNewClient p c → IsSession None [] c (new_session p)
 new_session_is p c fresh = record {
   peer = fresh.peer;
   limit = fresh.limit;
@@ -114,7 +114,7 @@ module _ {G : Type 0} (stands : G → Chain → Type 0) where
   }
 
   -- a client joins
-  joined_taken : (s : State G) (world : World) (p : ℕ) (c : ClientState) → (p ≡ 0 → ⊥) → IsIdle s → AllByRecursion (λ (d : ClientState). d.peer < p) s.clients → Stands stands s world [] → IsFresh p c
+  joined_taken : (s : State G) (world : World) (p : ℕ) (c : ClientState) → (p ≡ 0 → ⊥) → IsIdle s → AllByRecursion (λ (d : ClientState). d.peer < p) s.clients → Stands stands s world [] → IsNewClient p c
       → nat_lt (length s.clients) client_limit ≡ true → TookArrival stands (opened p) world (record s { clients = s.clients ++ c ∷ [] })
   joined_taken s world p c other idle newest stood fresh few =
       let t = stood.tellings in
@@ -212,7 +212,7 @@ module _ {G : Type 0} (stands : G → Chain → Type 0) where
   more_lines : (heard bytes : List ℕ) → length (lines line_limit heard) ≤ length (lines line_limit (heard ++ bytes))
   more_lines heard bytes = rw (pieces line_limit heard bytes) (simp length-append (omega arith))
 
-  more_left : (c next : ClientState) (heard bytes : List ℕ) → IsMet c heard → Keeps bytes c next → HearsLeft next (heard ++ bytes) (map (says c.peer) (added_lines line_limit heard bytes))
+  more_left : (c next : ClientState) (heard bytes : List ℕ) → IsMet c heard → KeepsBytes bytes c next → HearsLeft next (heard ++ bytes) (map (says c.peer) (added_lines line_limit heard bytes))
   more_left c next heard bytes met keeps = elim (either next.lost) [
     | inl h ↦ losing h (rw keeps.peer (said_all c.peer (added_lines line_limit heard bytes)))
     | inr h ↦
@@ -220,7 +220,7 @@ module _ {G : Type 0} (stands : G → Chain → Type 0) where
         in_order (length (lines line_limit heard)) h (fed heard (length (lines line_limit heard)) met.at) (more_lines heard bytes) (rw keeps.peer refl)
   ]
 
-  speaks_now : (p : ℕ) (left : List Event) (c kept : ClientState) (x : Session) (bytes : List ℕ) → c.peer ≡ p → left ≡ map (says p) (added_lines line_limit x.heard bytes) → Keeps bytes c kept → IsSession None [] c x
+  speaks_now : (p : ℕ) (left : List Event) (c kept : ClientState) (x : Session) (bytes : List ℕ) → c.peer ≡ p → left ≡ map (says p) (added_lines line_limit x.heard bytes) → KeepsBytes bytes c kept → IsSession None [] c x
       → IsSession (Some p) left kept (record x { heard = x.heard ++ bytes })
   speaks_now p left c kept x bytes is whole keeps s = record {
     peer = keeps.peer ∙ s.peer;
@@ -232,7 +232,7 @@ module _ {G : Type 0} (stands : G → Chain → Type 0) where
   }
 
   pub client_taken : (s : State G) (world : World) (p : ℕ) (bytes : List ℕ) (i : ℕ) (c kept : ClientState) → (p ≡ 0 → ⊥) → IsIdle s → Stands stands s world [] → slice_get s.clients i ≡ Some c → c.peer ≡ p
-      → Keeps bytes c kept → TookArrival stands (brought p bytes) world (record s { clients = replaced i (Some kept) s.clients; speaker = Some p })
+      → KeepsBytes bytes c kept → TookArrival stands (brought p bytes) world (record s { clients = client_replaced i (Some kept) s.clients; speaker = Some p })
   client_taken s world p bytes i c kept other idle stood at is keeps =
       let are : SessionsAre s.clients None None world.sessions [] = rw (idle.speaker, idle.surplus) at (sessions_none s world stood) in
       let t = stood.tellings in
@@ -242,10 +242,10 @@ module _ {G : Type 0} (stands : G → Chain → Type 0) where
       let x = z.0 in
       let xp : x.peer ≡ p = sym z.2.peer ∙ is in
       let left = map (says p) (added_lines line_limit x.heard bytes) in
-      let heard : map (hearing p bytes) world.sessions ≡ replaced i (Some (record x { heard = x.heard ++ bytes })) world.sessions =
+      let heard : map (hearing p bytes) world.sessions ≡ client_replaced i (Some (record x { heard = x.heard ++ bytes })) world.sessions =
       one_mapped p (λ (y : Session). record y { heard = y.heard ++ bytes }) world.sessions i x are.rising z.1 xp in
-      let ss = replaced i (Some (record x { heard = x.heard ++ bytes })) world.sessions in
-      let now_are : SessionsAre (replaced i (Some kept) s.clients) (Some p) None ss left = record {
+      let ss = client_replaced i (Some (record x { heard = x.heard ++ bytes })) world.sessions in
+      let now_are : SessionsAre (client_replaced i (Some kept) s.clients) (Some p) None ss left = record {
         each = zip_replaced (IsSession None []) (IsSession (Some p) left) s.clients world.sessions i x (Some kept) (Some (record x { heard = x.heard ++ bytes })) are.each are.rising z.1
             (λ d y r differ. record {
               peer = r.peer;
@@ -259,9 +259,9 @@ module _ {G : Type 0} (stands : G → Chain → Type 0) where
         rising = rising_replaced world.sessions i x (Some (record x { heard = x.heard ++ bytes })) are.rising z.1 refl;
         leaves_left = one_there p ss i (record x { heard = x.heard ++ bytes }) (at_replaced world.sessions i x (record x { heard = x.heard ++ bytes }) z.1) xp;
       } in
-      let now : Stands stands (record s { clients = replaced i (Some kept) s.clients; speaker = Some p; surplus = s.surplus }) (record world { sessions = ss }) left =
-      clients_change s world (replaced i (Some kept) s.clients) (Some p) s.surplus ss left stood
-      (subst (λ (u : Option ℕ). SessionsAre (replaced i (Some kept) s.clients) (Some p) u ss left) (sym idle.surplus) now_are)
+      let now : Stands stands (record s { clients = client_replaced i (Some kept) s.clients; speaker = Some p; surplus = s.surplus }) (record world { sessions = ss }) left =
+      clients_change s world (client_replaced i (Some kept) s.clients) (Some p) s.surplus ss left stood
+      (subst (λ (u : Option ℕ). SessionsAre (client_replaced i (Some kept) s.clients) (Some p) u ss left) (sym idle.surplus) now_are)
       (λ q e. all_replaced _ world.sessions i (Some (record x { heard = x.heard ++ bytes })) quiet_before (all_at _ world.sessions i x quiet_before z.1))
       (λ q e. absurd (no_some q (sym e ∙ idle.surplus)))
       (record {
@@ -282,13 +282,13 @@ module _ {G : Type 0} (stands : G → Chain → Type 0) where
       same_number : (a b : ℕ) → ◌≡◌ {A = Option ℕ} (Some a) (Some b) → a ≡ b
       same_number a b e = cc
 
-      at_replaced : (ys : List Session) (j : ℕ) (y n : Session) → slice_get ys j ≡ Some y → slice_get (replaced j (Some n) ys) j ≡ Some n
+      at_replaced : (ys : List Session) (j : ℕ) (y n : Session) → slice_get ys j ≡ Some y → slice_get (client_replaced j (Some n) ys) j ≡ Some n
       at_replaced [] j y n at = absurd (no_some y (sym at))
       at_replaced (u ∷ ys) zero y n at = refl
       at_replaced (u ∷ ys) (suc j) y n at = at_replaced ys j y n at
 
   -- bytes of nobody come
-  pub nobody_taken : (s : State G) (world : World) (p : ℕ) (bytes : List ℕ) → (p ≡ 0 → ⊥) → IsIdle s → Stands stands s world [] → IsPlace p s.clients None → TookArrival stands (brought p bytes) world s
+  pub nobody_taken : (s : State G) (world : World) (p : ℕ) (bytes : List ℕ) → (p ≡ 0 → ⊥) → IsIdle s → Stands stands s world [] → IsClientPlace p s.clients None → TookArrival stands (brought p bytes) world s
   nobody_taken s world p bytes other idle stood absent =
       let are : SessionsAre s.clients None None world.sessions [] = rw (idle.speaker, idle.surplus) at (sessions_none s world stood) in
       let no : AllByRecursion (λ (y : Session). is_peer p y ≡ false) world.sessions =
@@ -351,7 +351,7 @@ module _ {G : Type 0} (stands : G → Chain → Type 0) where
 
   -- before any arrival
   pub new_stands : (s : State G) (sure relays : Bool) (chain : Chain) (magic : List ℕ) (found : List Node) (files : ℕ → List ℕ) → (sure ≡ true → stands s.ledger chain) → (sure ≡ true → CachesStand s.caches chain chain) → s.holdings.magic ≡ magic → s.holdings.tree ≡ found → s.ahead ≡ []
-      → s.holdings.pool.entries ≡ [] → IsTableOf s.holdings.fees [] → s.clients ≡ [] → s.speaker ≡ None → s.surplus ≡ None → s.before ≡ None → s.desk ≡ empty_desk relays → s.node.limit ≡ node_limit → IsAt s.node [] 0
+      → s.holdings.pool.entries ≡ [] → IsTableOf s.holdings.fees [] → s.clients ≡ [] → s.speaker ≡ None → s.surplus ≡ None → s.before ≡ None → s.desk ≡ empty_desk relays → s.node.limit ≡ node_limit → WasFed s.node [] 0
       → Stands stands s (model.initial_world sure chain magic s.holdings.pool.limits found files relays) []
   new_stands s sure relays chain magic found files stood kept m f a none_kept no_fees c sp u b d limit at' = record {
     chain = stood;

@@ -20,7 +20,7 @@ use Rattle.el_lines.specs.LineStates.{LineState}
 use Rattle.el_lines.specs.declared.line_buffer.LineEvent.TheVariants as event
 use Rattle.el_core.specs.State.{State, ClientState, HearsLeft, in_order, losing, IsSession, SessionsAre, NodeLeaves, Stands}
 use Rattle.el_core.specs.Turn.{HasLost, MeetsLine, WaitsToBeTold, outs_of, closing_of}
-use Rattle.el_core.specs.within.Clients.{Passing, replied, starved, Gives, NextIsLine, ClientTurn, nobody, gone, steps, loses, departs, answers, waits, PeersTurn, closes, has_turn, TellTurn, TellsAt, IsToTell, IsFirstWaiting}
+use Rattle.el_core.specs.within.Clients.{Passing, replied, starved, GivesEvent, NextIsLine, ClientTurn, nobody, gone, steps, loses, departs, answers, waits, PeersTurn, closes, has_turn, TellTurn, TellsAt, IsToTell, IsFirstWaiting}
 use Rattle.el_core.specs.within.Clients as telling
 use Rattle.el_core.specs.declared.out.Outs as code
 use Rattle.el_core.proofs.Places.{there_at, all_at, zip_at}
@@ -45,7 +45,7 @@ nothing_next b heard own x n none is =
     let e = sym none ∙ n.left_is ∙ first in
     cc
 
-pub none_given : (b next : LineState) (heard : List ℕ) (own : List Event) (x : LineEvent) → NodeLeaves b heard own → own ≡ [] → Gives b x next → ⊥
+pub none_given : (b next : LineState) (heard : List ℕ) (own : List Event) (x : LineEvent) → NodeLeaves b heard own → own ≡ [] → GivesEvent b x next → ⊥
 none_given b next heard own x n none gives = nothing_next b heard own x n none (gives heard n.given n.at).0
 
 pub none_unread : (b : LineState) (heard : List ℕ) (own : List Event) → NodeLeaves b heard own → own ≡ [] → NextIsLine b → ⊥
@@ -125,7 +125,7 @@ meets c heard left p kept limit hears next_line is =
       is = o.left_is ∙ left_first (says c.peer) (lines line_limit heard) o.given (line g.0) listed;
     })
 
-gives_line : (c : ClientState) (b : LineState) (bytes : List ℕ) → Gives c.buffer (line bytes) b → NextIsLine c.buffer
+gives_line : (c : ClientState) (b : LineState) (bytes : List ℕ) → GivesEvent c.buffer (line bytes) b → NextIsLine c.buffer
 gives_line c b bytes gives = λ fed given at few. (bytes, (gives fed given at).0)
 
 contains_at : (cs : List ClientState) (i : ℕ) (c : ClientState) → slice_get cs i ≡ Some c → Contains cs c

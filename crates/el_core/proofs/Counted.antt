@@ -10,9 +10,9 @@ use Rattle.el_sessions.specs.Watching.{times, counted, Follows}
 use Rattle.el_lines.proofs.Cuts.{either}
 use Rattle.el_core.specs.Arrivals.{kept_clients}
 use Rattle.el_core.specs.State.{ClientState, is_numbered}
-use Rattle.el_core.specs.within.Clients.{replaced, all_wait}
+use Rattle.el_core.specs.within.Clients.{client_replaced, all_wait}
 use Rattle.el_core.specs.within.Touching.{is_held}
-use Rattle.el_core.specs.within.Watching.{held_keys, Counts}
+use Rattle.el_core.specs.within.Watching.{held_keys, CountWatchers}
 use Rattle.el_core.proofs.Places.{same_some}
 use Rattle.el_core.proofs.Replacing.{set_is_replaced}
 
@@ -29,7 +29,7 @@ times_append t (x ∷ xs) ys =
 
 -- what a client holds is among what all hold
 held_at : (t : Hash32) (clients : List ClientState) (i : ℕ) (c : ClientState) → slice_get clients i ≡ Some c
-    → times t (held_keys clients) ≡ times t (held_keys (replaced i None clients)) + times t (keys_of c.session.subs)
+    → times t (held_keys clients) ≡ times t (held_keys (client_replaced i None clients)) + times t (keys_of c.session.subs)
 held_at t [] i c at = absurd cc
 held_at t (x ∷ xs) zero c at =
     let is : x ≡ c = same_some x c at in
@@ -37,13 +37,13 @@ held_at t (x ∷ xs) zero c at =
     rw is (omega arith)
 held_at t (x ∷ xs) (suc i) c at =
     let e = times_append t (keys_of x.session.subs) (held_keys xs) in
-    let f = times_append t (keys_of x.session.subs) (held_keys (replaced i None xs)) in
+    let f = times_append t (keys_of x.session.subs) (held_keys (client_replaced i None xs)) in
     let g = held_at t xs i c at in
     omega arith
 
 -- a client keeps its script hashes
 pub held_same : (clients : List ClientState) (i : ℕ) (c next : ClientState) → slice_get clients i ≡ Some c → keys_of next.session.subs ≡ keys_of c.session.subs
-    → held_keys (replaced i (Some next) clients) ≡ held_keys clients
+    → held_keys (client_replaced i (Some next) clients) ≡ held_keys clients
 held_same [] i c next at same = refl
 held_same (x ∷ xs) zero c next at same =
     let is : x ≡ c = same_some x c at in
@@ -59,17 +59,17 @@ pub held_more : (clients : List ClientState) (c : ClientState) → c.session.sub
 held_more [] c none = rw none refl
 held_more (x ∷ xs) c none = ap (λ (l : List Hash32). keys_of x.session.subs ++ l) (held_more xs c none)
 
-pub counts_of : (entries : List (Hash32 × ℕ)) (old new : List ClientState) → held_keys new ≡ held_keys old → Counts entries old → Counts entries new
+pub counts_of : (entries : List (Hash32 × ℕ)) (old new : List ClientState) → held_keys new ≡ held_keys old → CountWatchers entries old → CountWatchers entries new
 counts_of entries old new same counts s = counts s ∙ ap (times s) (sym same)
 
-pub none_counts : (entries : List (Hash32 × ℕ)) (clients : List ClientState) → entries ≡ [] → clients ≡ [] → Counts entries clients
+pub none_counts : (entries : List (Hash32 × ℕ)) (clients : List ClientState) → entries ≡ [] → clients ≡ [] → CountWatchers entries clients
 none_counts entries clients no_entries no_clients s = rw (no_entries, no_clients) refl
 
 -- the client at that place keeps its script hashes
-pub set_counts : (entries : List (Hash32 × ℕ)) (items : List ClientState) (i : ℕ) (c next : ClientState) → i < length items → c ≡ get_or items i c → keys_of next.session.subs ≡ keys_of c.session.subs → Counts entries items
-    → Counts entries (slice_set items i next)
+pub set_counts : (entries : List (Hash32 × ℕ)) (items : List ClientState) (i : ℕ) (c next : ClientState) → i < length items → c ≡ get_or items i c → keys_of next.session.subs ≡ keys_of c.session.subs → CountWatchers entries items
+    → CountWatchers entries (slice_set items i next)
 set_counts entries items i c next lt is same counts =
-    rw (set_is_replaced items i next lt) (counts_of entries items (replaced i (Some next) items) (held_same items i c next (slice_get_read items (length items) i c refl lt is) same) counts)
+    rw (set_is_replaced items i next lt) (counts_of entries items (client_replaced i (Some next) items) (held_same items i c next (slice_get_read items (length items) i c refl lt is) same) counts)
 
 -- ---- whether someone subscribes
 
@@ -92,31 +92,31 @@ any_held s (c ∷ cs) =
     ∙ ap (λ (b : Bool). b || nat_lt 0 (times s (held_keys cs))) (any_times s c.session.subs)
     ∙ ap (λ (b : Bool). is_subscribed s c.session.subs || b) (any_held s cs)
 
-pub counted_held : (entries : List (Hash32 × ℕ)) (clients : List ClientState) (s : Hash32) → Counts entries clients → nat_lt 0 (counted entries s) ≡ is_held clients s
+pub counted_held : (entries : List (Hash32 × ℕ)) (clients : List ClientState) (s : Hash32) → CountWatchers entries clients → nat_lt 0 (counted entries s) ≡ is_held clients s
 counted_held entries clients s counts = ap (nat_lt 0) (counts s) ∙ any_held s clients
 
 -- ---- a client goes, or has subscribed
 
 -- what a client holds that comes to that place is among what all hold
 held_put : (t : Hash32) (clients : List ClientState) (i : ℕ) (c next : ClientState) → slice_get clients i ≡ Some c
-    → times t (held_keys (replaced i (Some next) clients)) ≡ times t (held_keys (replaced i None clients)) + times t (keys_of next.session.subs)
+    → times t (held_keys (client_replaced i (Some next) clients)) ≡ times t (held_keys (client_replaced i None clients)) + times t (keys_of next.session.subs)
 held_put t [] i c next at = absurd cc
 held_put t (x ∷ xs) zero c next at =
     let e = times_append t (keys_of next.session.subs) (held_keys xs) in
     omega arith
 held_put t (x ∷ xs) (suc i) c next at =
-    let e = times_append t (keys_of x.session.subs) (held_keys (replaced i (Some next) xs)) in
-    let f = times_append t (keys_of x.session.subs) (held_keys (replaced i None xs)) in
+    let e = times_append t (keys_of x.session.subs) (held_keys (client_replaced i (Some next) xs)) in
+    let f = times_append t (keys_of x.session.subs) (held_keys (client_replaced i None xs)) in
     let g = held_put t xs i c next at in
     omega arith
 
 -- what is counted follows the subscriptions of the client at that place
-pub set_follows : (old new : List (Hash32 × ℕ)) (items : List ClientState) (i : ℕ) (c next : ClientState) → i < length items → c ≡ get_or items i c → Follows c.session.subs next.session.subs old new → Counts old items
-    → Counts new (slice_set items i next)
+pub set_follows : (old new : List (Hash32 × ℕ)) (items : List ClientState) (i : ℕ) (c next : ClientState) → i < length items → c ≡ get_or items i c → Follows c.session.subs next.session.subs old new → CountWatchers old items
+    → CountWatchers new (slice_set items i next)
 set_follows old new items i c next lt is follows counts =
     rw (set_is_replaced items i next lt) (by (slice_get_read items (length items) i c refl lt is))
   where
-    by : slice_get items i ≡ Some c → Counts new (replaced i (Some next) items)
+    by : slice_get items i ≡ Some c → CountWatchers new (client_replaced i (Some next) items)
     by at s =
         let held = held_at s items i c at in
         let all = counts s in
@@ -126,8 +126,8 @@ set_follows old new items i c next lt is follows counts =
         omega arith
 
 -- it goes, and what was counted of it goes with it
-pub gone_counts : (old new : List (Hash32 × ℕ)) (items left : List ClientState) (i : ℕ) (c : ClientState) → slice_get items i ≡ Some c → Counts old items
-    → ((t : Hash32) → counted new t ≡ counted old t - times t (keys_of c.session.subs)) → left ≡ replaced i None items → Counts new left
+pub gone_counts : (old new : List (Hash32 × ℕ)) (items left : List ClientState) (i : ℕ) (c : ClientState) → slice_get items i ≡ Some c → CountWatchers old items
+    → ((t : Hash32) → counted new t ≡ counted old t - times t (keys_of c.session.subs)) → left ≡ client_replaced i None items → CountWatchers new left
 gone_counts old new items left i c at counts less gone s =
     let held = held_at s items i c at in
     let all = counts s in
@@ -136,7 +136,7 @@ gone_counts old new items left i c at counts less gone s =
 
 -- ---- a number is forgotten
 
-pub kept_gone : (p : ℕ) (clients : List ClientState) (i : ℕ) (c : ClientState) → slice_get clients i ≡ Some c → c.peer ≡ p → kept_clients p (replaced i None clients) ≡ kept_clients p clients
+pub kept_gone : (p : ℕ) (clients : List ClientState) (i : ℕ) (c : ClientState) → slice_get clients i ≡ Some c → c.peer ≡ p → kept_clients p (client_replaced i None clients) ≡ kept_clients p clients
 kept_gone p [] i c at is = refl
 kept_gone p (x ∷ xs) zero c at is =
     let e : x.peer ≡ p = ap (λ (d : ClientState). d.peer) (same_some x c at) ∙ is in
@@ -150,7 +150,7 @@ pub kept_all : (p : ℕ) (clients : List ClientState) → AllByRecursion (λ (c 
 kept_all p [] none = refl
 kept_all p (x ∷ xs) none = rw none.0 (ap (λ (l : List ClientState). x ∷ l) (kept_all p xs none.1))
 
-pub gone_shorter : (clients : List ClientState) (i : ℕ) → i < length clients → length (replaced i None clients) < length clients
+pub gone_shorter : (clients : List ClientState) (i : ℕ) → i < length clients → length (client_replaced i None clients) < length clients
 gone_shorter [] i lt = absurd (omega arith)
 gone_shorter (x ∷ xs) zero lt = omega arith
 gone_shorter (x ∷ xs) (suc i) lt =

@@ -12,16 +12,16 @@ use Rattle.el_chain.proofs.TouchLemmas.{any_added, hash_gives}
 use Rattle.el_lines.proofs.Cuts.{either}
 use Rattle.el_status.specs.Untouched.{is_among}
 use Rattle.el_core.specs.State.{ClientState}
-use Rattle.el_core.specs.within.Touching.{is_held, Covers, CoversAll}
+use Rattle.el_core.specs.within.Touching.{is_held, HasAllSubscribed, CoversAll}
 
 -- one script hash: it is added
-pub one_added : (clients : List ClientState) (old new : List Hash32) (x : Hash32) → new ≡ (if list_any (same_hash x) old then old else old ++ x ∷ []) → Covers clients old (x ∷ []) new
+pub one_added : (clients : List ClientState) (old new : List Hash32) (x : Hash32) → new ≡ (if list_any (same_hash x) old then old else old ++ x ∷ []) → HasAllSubscribed clients old (x ∷ []) new
 one_added clients old new x is s held none =
     let parts = or_parts (is_among old s) (same_hash s x) (sym (any_added s x old new is) ∙ none) in
     (parts.0, or_from (same_hash s x) false parts.1 refl)
 
 -- nobody holds it
-pub one_left : (clients : List ClientState) (old : List Hash32) (x : Hash32) → is_held clients x ≡ false → Covers clients old (x ∷ []) old
+pub one_left : (clients : List ClientState) (old : List Hash32) (x : Hash32) → is_held clients x ≡ false → HasAllSubscribed clients old (x ∷ []) old
 one_left clients old x nobody_holds s held none = (none, or_from (same_hash s x) false other refl)
   where
     other : same_hash s x ≡ false
@@ -30,12 +30,12 @@ one_left clients old x nobody_holds s held none = (none, or_from (same_hash s x)
       | inr differs ↦ differs
     ]
 
-pub none_yet : (clients : List ClientState) (old items : List Hash32) → Covers clients old (take 0 items) old
+pub none_yet : (clients : List ClientState) (old items : List Hash32) → HasAllSubscribed clients old (take 0 items) old
 none_yet clients old items s held none = (none, refl)
 
 -- one more of them
-pub one_more : (clients : List ClientState) (start now next items : List Hash32) (i : ℕ) (x d : Hash32) → i < length items → x ≡ get_or items i d → Covers clients start (take i items) now → Covers clients now (x ∷ []) next
-    → Covers clients start (take (i + 1) items) next
+pub one_more : (clients : List ClientState) (start now next items : List Hash32) (i : ℕ) (x d : Hash32) → i < length items → x ≡ get_or items i d → HasAllSubscribed clients start (take i items) now → HasAllSubscribed clients now (x ∷ []) next
+    → HasAllSubscribed clients start (take (i + 1) items) next
 one_more clients start now next items i x d lt is first more s held none =
     let m = more s held none in
     let f = first s held m.0 in
@@ -46,18 +46,18 @@ one_more clients start now next items i x d lt is first more s held none =
     is_among' : Hash32 → List Hash32 → Bool
     is_among' t scripts = is_among scripts t
 
-pub all_of_them : (clients : List ClientState) (start now items scripts : List Hash32) (i : ℕ) → length items ≤ i → items ≡ scripts → Covers clients start (take i items) now → Covers clients start scripts now
+pub all_of_them : (clients : List ClientState) (start now items scripts : List Hash32) (i : ℕ) → length items ≤ i → items ≡ scripts → HasAllSubscribed clients start (take i items) now → HasAllSubscribed clients start scripts now
 all_of_them clients start now items scripts i most same covers =
-    subst (λ (l : List Hash32). Covers clients start l now) (take_all i items most ∙ same) covers
+    subst (λ (l : List Hash32). HasAllSubscribed clients start l now) (take_all i items most ∙ same) covers
 
 -- those of two lists, one after the other
-both_covered : (clients : List ClientState) (old mid new moved changed : List Hash32) → Covers clients old moved mid → Covers clients mid changed new → CoversAll clients old moved changed new
+both_covered : (clients : List ClientState) (old mid new moved changed : List Hash32) → HasAllSubscribed clients old moved mid → HasAllSubscribed clients mid changed new → CoversAll clients old moved changed new
 both_covered clients old mid new moved changed first second s held none =
     let b = second s held none in
     let a = first s held b.0 in
     (a.0, a.1, b.1)
 
 -- where the second call found memory
-pub both_where_ok : {T E : Type 0} (r : Result T E) (clients : List ClientState) (old mid new moved changed : List Hash32) → Covers clients old moved mid → OnOk r (Covers clients mid changed new) → OnOk r (CoversAll clients old moved changed new)
+pub both_where_ok : {T E : Type 0} (r : Result T E) (clients : List ClientState) (old mid new moved changed : List Hash32) → HasAllSubscribed clients old moved mid → OnOk r (HasAllSubscribed clients mid changed new) → OnOk r (CoversAll clients old moved changed new)
 both_where_ok (Ok x) clients old mid new moved changed first second = both_covered clients old mid new moved changed first second
 both_where_ok (Err e) clients old mid new moved changed first second = tt

@@ -16,7 +16,7 @@ use Rattle.el_lines.specs.declared.line_buffer.LineEvent.TheVariants as event
 use Rattle.el_replies.specs.RowBounds.{ItemReads, ItemsRead, LineReads, ReadsWithin}
 use Rattle.el_world.specs.World.{World, Event, says, line_limit}
 use Rattle.el_core.specs.State.{State, ClientState, SessionsAre, Stands}
-use Rattle.el_core.specs.within.Clients.{Gives}
+use Rattle.el_core.specs.within.Clients.{GivesEvent}
 use Rattle.el_core.specs.within.RowBounds.{EventReads, NextReads, ClientReads, SpeakerReads}
 use Rattle.el_core.proofs.Causes.{no_line, none_ordered_before}
 use Rattle.el_core.proofs.Peers.{speaking}
@@ -46,7 +46,7 @@ pub within_more : (may other : ℕ → Type 0) (was now : ℕ) → ((n : ℕ) �
 within_more may other was now more (n, is, le) = (n, more n is, le)
 
 -- what was met is the next line of a client whose bytes were all kept
-pub met_reads : (chain : Chain) (buckets : ℕ) (c : ClientState) (e : met.LineEvent) (b : LineState) → c.lost ≡ false → Gives c.buffer (as_listed e) b
+pub met_reads : (chain : Chain) (buckets : ℕ) (c : ClientState) (e : met.LineEvent) (b : LineState) → c.lost ≡ false → GivesEvent c.buffer (as_listed e) b
     → (n : ℕ) → EventReads chain buckets e n → ClientReads chain buckets c n
 met_reads chain buckets c (event.Line bytes) b kept gives n reads = inr (record { kept = kept; bytes = bytes; next = b; gives = gives; reads = reads })
 met_reads chain buckets c (event.TooLong limit) b kept gives n zero = inl zero

@@ -8,8 +8,8 @@ use Rattle.el_lines.proofs.Cuts.{either}
 use Rattle.el_side.specs.Side.{Side}
 use Rattle.el_core.specs.State.{State, ClientState, IsIdle, is_numbered, waiting, work, work_of_node, work_of_client, work_of_clients, work_of_speaker, work_of_peers}
 use Rattle.el_core.specs.Arrivals.{gone_from, kept_clients, kept_speaker}
-use Rattle.el_lines.specs.LineStates.{held}
-use Rattle.el_core.specs.within.Clients.{Passing, TellsAt, IsFirstWaiting, all_wait, replaced, IsPlace, ClientTurn, TurnsAt, SpeakerSteps, steps, speaker_after, PeersTurn, has_turn}
+use Rattle.el_lines.specs.LineStates.{held_bytes}
+use Rattle.el_core.specs.within.Clients.{Passing, TellsAt, IsFirstWaiting, all_wait, client_replaced, IsClientPlace, ClientTurn, TurnsAt, SpeakerSteps, steps, speaker_after, PeersTurn, has_turn}
 use Rattle.el_core.specs.declared.out.Outs.{Outs}
 use Rattle.el_core.proofs.Places.{same_some, no_some}
 
@@ -24,16 +24,16 @@ speaker_stays None left o p c e some same is = absurd (no_some o (sym some))
 speaker_stays (Some q) None o p c e some same is = absurd (true≢false (sym e))
 speaker_stays (Some q) (Some d) o p c e some same is = ap (λ (n : ℕ). Some n) (sym (same.0 ∙ is))
 
-pub steps_of : {G : Type 0} (says : ClientState → Option ClientState → Type 0) (tells : Type 0) (side : Side) (rose : Passing) (s new : State G) (outs : Option Outs) (stays : Bool) (p i : ℕ) → s.speaker ≡ Some p → IsPlace p s.clients (Some i)
+pub steps_of : {G : Type 0} (says : ClientState → Option ClientState → Type 0) (tells : Type 0) (side : Side) (rose : Passing) (s new : State G) (outs : Option Outs) (stays : Bool) (p i : ℕ) → s.speaker ≡ Some p → IsClientPlace p s.clients (Some i)
     → (t : TurnsAt says i s.clients outs stays new.clients) → ((c : ClientState) (left : Option ClientState) → says c left → ClientTurn tells side rose c outs left)
     → new ≡ record s { ledger = new.ledger; caches = new.caches; desk = new.desk; clients = new.clients; speaker = new.speaker } → (t.client.peer ≡ p → new.speaker ≡ speaker_after outs t.left) → SpeakerSteps tells side rose s outs new
 steps_of {G} says tells side rose s new outs stays p i is place t turn same speaker =
     let peer : t.client.peer ≡ p = ap (λ (d : ClientState). d.peer) (same_some _ _ (sym t.at ∙ place.1)) ∙ place.2 in
     steps p i t.client t.left is t.at peer (turn t.client t.left t.said)
     (same ∙ ap (λ (cs : List ClientState). record s { ledger = new.ledger; caches = new.caches; desk = new.desk; clients = cs; speaker = new.speaker }) t.next_is
-    ∙ ap (λ (u : Option ℕ). record s { ledger = new.ledger; caches = new.caches; desk = new.desk; clients = replaced i t.left s.clients; speaker = u }) (speaker peer))
+    ∙ ap (λ (u : Option ℕ). record s { ledger = new.ledger; caches = new.caches; desk = new.desk; clients = client_replaced i t.left s.clients; speaker = u }) (speaker peer))
 
-length_replaced : (cs : List ClientState) (i : ℕ) (left : Option ClientState) → length (replaced i left cs) ≤ length cs
+length_replaced : (cs : List ClientState) (i : ℕ) (left : Option ClientState) → length (client_replaced i left cs) ≤ length cs
 length_replaced [] i left = omega arith
 length_replaced (c ∷ cs) zero None = omega arith
 length_replaced (c ∷ cs) zero (Some d) = omega arith
@@ -42,7 +42,7 @@ length_replaced (c ∷ cs) (suc i) left = let l = length_replaced cs i left in o
 pub turned_fewer : (says : ClientState → Option ClientState → Type 0) (i : ℕ) (cs next : List ClientState) (outs : Option Outs) (stays : Bool) → TurnsAt says i cs outs stays next → length next ≤ length cs
 turned_fewer says i cs next outs stays t = let l = length_replaced cs i t.left in subst (λ (n : List ClientState). length n ≤ length cs) (sym t.next_is) l
 
-waits_replaced : (cs : List ClientState) (i : ℕ) (c : ClientState) (left : Option ClientState) → slice_get cs i ≡ Some c → IfSome left (λ d. (d.peer ≡ c.peer) × (d.waits ≡ c.waits)) → length (waiting (replaced i left cs)) ≤ length (waiting cs)
+waits_replaced : (cs : List ClientState) (i : ℕ) (c : ClientState) (left : Option ClientState) → slice_get cs i ≡ Some c → IfSome left (λ d. (d.peer ≡ c.peer) × (d.waits ≡ c.waits)) → length (waiting (client_replaced i left cs)) ≤ length (waiting cs)
 waits_replaced [] i c left at same = absurd (no_some c (sym at))
 waits_replaced (x ∷ cs) zero c None at same = elim (either x.waits) [
   | inl h ↦ rw h (omega arith)
@@ -64,7 +64,7 @@ waits_replaced (x ∷ cs) (suc i) c left at same =
 pub turned_waits : (says : ClientState → Option ClientState → Type 0) (i : ℕ) (cs next : List ClientState) (outs : Option Outs) (stays : Bool) → TurnsAt says i cs outs stays next → length (waiting next) ≤ length (waiting cs)
 turned_waits says i cs next outs stays t = subst (λ (n : List ClientState). length (waiting n) ≤ length (waiting cs)) (sym t.next_is) (waits_replaced cs i t.client t.left t.at t.same)
 
-work_replaced : (cs : List ClientState) (i : ℕ) (c : ClientState) (left : Option ClientState) → slice_get cs i ≡ Some c → work_of_clients (replaced i left cs) + work_of_client (Some c) ≡ work_of_clients cs + work_of_client left
+work_replaced : (cs : List ClientState) (i : ℕ) (c : ClientState) (left : Option ClientState) → slice_get cs i ≡ Some c → work_of_clients (client_replaced i left cs) + work_of_client (Some c) ≡ work_of_clients cs + work_of_client left
 work_replaced [] i c left at = absurd (no_some c (sym at))
 work_replaced (x ∷ cs) zero c None at = rw (same_some x c at) (omega arith)
 work_replaced (x ∷ cs) zero c (Some d) at = rw (same_some x c at) (omega arith)
@@ -76,7 +76,7 @@ pub turned_less : (says : ClientState → Option ClientState → Type 0) (p i su
 turned_less says p i surplus cs next outs o stays t some =
     let less : work_of_client t.left < work_of_client (Some t.client) = subst (λ (x : Option Outs). OnSome x (work_of_client t.left < work_of_client (Some t.client))) some t.less in
     let w = work_replaced cs i t.client t.left t.at in
-    let lt : work_of_clients (replaced i t.left cs) + surplus < work_of_clients cs + surplus = omega arith in
+    let lt : work_of_clients (client_replaced i t.left cs) + surplus < work_of_clients cs + surplus = omega arith in
     subst (λ (n : List ClientState). work_of_clients n + surplus < work_of_clients cs + surplus) (sym t.next_is) lt
 
 pub turned_gone : (says : ClientState → Option ClientState → Type 0) (p i surplus : ℕ) (cs next : List ClientState) (outs : Option Outs) (stays : Bool) → TurnsAt says i cs outs stays next
@@ -145,7 +145,7 @@ gone_work {G} s p =
     let l = length_filter (λ (c : ClientState). not (is_numbered p c)) s.clients in
     let w = waits_filter (λ (c : ClientState). not (is_numbered p c)) s.clients in
     let k = speaker_filter p s.speaker s.clients in
-    let m = mul-le-mul_left (work_of_node (held s.node) (length s.holdings.tree) (length s.ahead)) (let e : length (kept_clients p s.clients) + 1 ≤ length s.clients + 1 = omega arith in e) in
+    let m = mul-le-mul_left (work_of_node (held_bytes s.node) (length s.holdings.tree) (length s.ahead)) (let e : length (kept_clients p s.clients) + 1 ≤ length s.clients + 1 = omega arith in e) in
     omega arith
 
 pub same_of : {G : Type 0} (s mid next : State G) → mid ≡ record s { surplus = None } → next ≡ record mid { ledger = next.ledger; caches = next.caches; desk = next.desk; clients = next.clients; speaker = next.speaker }
@@ -156,7 +156,7 @@ same_of {G} s mid next a b =
 
 -- ---- the telling of a client
 
-waits_first : (cs : List ClientState) (i : ℕ) (c : ClientState) (left : Option ClientState) → slice_get cs i ≡ Some c → c.waits ≡ true → IfSome left (λ d. d.waits ≡ false) → length (waiting (replaced i left cs)) < length (waiting cs)
+waits_first : (cs : List ClientState) (i : ℕ) (c : ClientState) (left : Option ClientState) → slice_get cs i ≡ Some c → c.waits ≡ true → IfSome left (λ d. d.waits ≡ false) → length (waiting (client_replaced i left cs)) < length (waiting cs)
 waits_first [] i c left at is told = absurd (no_some c (sym at))
 waits_first (x ∷ cs) zero c None at is told = rw (same_some x c at, is) (omega arith)
 waits_first (x ∷ cs) zero c (Some d) at is told = rw (same_some x c at, is, told) (omega arith)
@@ -179,11 +179,11 @@ told_work : (says : ClientState → Option ClientState → Type 0) (i : ℕ) (cs
 told_work says i cs next None t = omega arith
 told_work says i cs next (Some p) t = subst (λ (n : List ClientState). work_of_clients n ≤ work_of_clients cs) (sym t.next_is) (by t.left t.same)
   where
-    by : (left : Option ClientState) → IfSome left (λ d. (d.buffer ≡ t.client.buffer) × (d.peer ≡ t.client.peer)) → work_of_clients (replaced i left cs) ≤ work_of_clients cs
+    by : (left : Option ClientState) → IfSome left (λ d. (d.buffer ≡ t.client.buffer) × (d.peer ≡ t.client.peer)) → work_of_clients (client_replaced i left cs) ≤ work_of_clients cs
     by None same = let w = work_replaced cs i t.client None t.at in omega arith
     by (Some d) same =
         let w = work_replaced cs i t.client (Some d) t.at in
-        let e : held d.buffer ≡ held t.client.buffer = ap held same.0 in
+        let e : held_bytes d.buffer ≡ held_bytes t.client.buffer = ap held_bytes same.0 in
         omega arith
 
 pub told_peers : (says : ClientState → Option ClientState → Type 0) (i surplus : ℕ) (cs next : List ClientState) (u : Option ℕ) → TellsAt says i cs next → work_of_speaker u next + surplus ≤ work_of_speaker u cs + surplus
@@ -215,9 +215,9 @@ pub ahead_less : {G : Type 0} (old new : State G) → length new.ahead < length 
     → work new < work old
 unfolding work_of_node
 ahead_less {G} old new fewer same tree =
-    let lt : held old.node * (length old.holdings.tree + held old.node + 1) + length new.ahead < held old.node * (length old.holdings.tree + held old.node + 1) + length old.ahead = omega arith in
+    let lt : held_bytes old.node * (length old.holdings.tree + held_bytes old.node + 1) + length new.ahead < held_bytes old.node * (length old.holdings.tree + held_bytes old.node + 1) + length old.ahead = omega arith in
     let two = mul-le-mul_right (length old.clients + 1) lt in
-    let three = suc-mul (held old.node * (length old.holdings.tree + held old.node + 1) + length new.ahead) (length old.clients + 1) in
+    let three = suc-mul (held_bytes old.node * (length old.holdings.tree + held_bytes old.node + 1) + length new.ahead) (length old.clients + 1) in
     rw (tree, ap (λ (s : State G). s.node) same, ap (λ (s : State G). s.clients) same, ap (λ (s : State G). s.speaker) same, ap (λ (s : State G). s.surplus) same) (omega arith)
 
 length_waits : (cs : List ClientState) → length (all_wait cs) ≡ length cs
@@ -236,9 +236,9 @@ waiting_few (c ∷ cs) =
 work_waits : (u : Option ℕ) (cs : List ClientState) → work_of_speaker u (all_wait cs) ≡ work_of_speaker u cs
 work_waits None cs = refl
 work_waits (Some p) [] = refl
-work_waits (Some p) (c ∷ cs) = ap (λ (n : ℕ). held c.buffer + 1 + n) (work_waits (Some p) cs)
+work_waits (Some p) (c ∷ cs) = ap (λ (n : ℕ). held_bytes c.buffer + 1 + n) (work_waits (Some p) cs)
 
-pub line_less : {G : Type 0} (old mid new : State G) → mid ≡ record old { node = mid.node } → held mid.node < held old.node → length new.ahead ≤ length mid.holdings.tree → length new.holdings.tree ≤ length mid.holdings.tree + 1
+pub line_less : {G : Type 0} (old mid new : State G) → mid ≡ record old { node = mid.node } → held_bytes mid.node < held_bytes old.node → length new.ahead ≤ length mid.holdings.tree → length new.holdings.tree ≤ length mid.holdings.tree + 1
     → new.clients ≡ all_wait mid.clients → new ≡ record mid { ledger = new.ledger; holdings = new.holdings; caches = new.caches; ahead = new.ahead; clients = new.clients; before = new.before; touched = new.touched } → work new < work old
 unfolding work_of_node
 line_less {G} old mid new same less fewer more all_wait_so then =
@@ -246,11 +246,11 @@ line_less {G} old mid new same less fewer more all_wait_so then =
     let clients : new.clients ≡ all_wait old.clients = all_wait_so ∙ ap all_wait (ap (λ (s : State G). s.clients) same) in
     let fewer' = rw found at fewer in
     let more' = rw found at more in
-    let w = work_line (held old.node) (held mid.node) (length old.holdings.tree) (length new.holdings.tree) (length new.ahead) less more' fewer' in
+    let w = work_line (held_bytes old.node) (held_bytes mid.node) (length old.holdings.tree) (length new.holdings.tree) (length new.ahead) less more' fewer' in
     let few = waiting_few (all_wait old.clients) in
     let len = length_waits old.clients in
     let few' : length (waiting (all_wait old.clients)) ≤ length old.clients = omega arith in
-    let w' : held mid.node * (length new.holdings.tree + held mid.node + 1) + length new.ahead < held old.node * (length old.holdings.tree + held old.node + 1) + length old.ahead = omega arith in
+    let w' : held_bytes mid.node * (length new.holdings.tree + held_bytes mid.node + 1) + length new.ahead < held_bytes old.node * (length old.holdings.tree + held_bytes old.node + 1) + length old.ahead = omega arith in
     let all = room_for_all _ _ (length old.clients) (length (waiting old.clients)) (length (waiting (all_wait old.clients))) (work_of_peers old) w' few' in
     rw (
       ap (λ (s : State G). s.node) then,
@@ -269,7 +269,7 @@ peers_less old new None same waits fewer less = tt
 peers_less {G} old new (Some o) same waits fewer less =
     let lt : length (waiting new.clients) + work_of_peers new < length (waiting old.clients) + work_of_peers old = omega arith in
     rw (ap (λ (s : State G). s.holdings.tree) same, ap (λ (s : State G). s.node) same, ap (λ (s : State G). s.ahead) same)
-    (room_kept (work_of_node (held old.node) (length old.holdings.tree) (length old.ahead)) (length old.clients) (length new.clients) (length (waiting old.clients)) (length (waiting new.clients)) (work_of_peers old) (work_of_peers new) fewer lt)
+    (room_kept (work_of_node (held_bytes old.node) (length old.holdings.tree) (length old.ahead)) (length old.clients) (length new.clients) (length (waiting old.clients)) (length (waiting new.clients)) (work_of_peers old) (work_of_peers new) fewer lt)
 
 -- a client was told, with so much work for the node
 pub told_less : (says : ClientState → Option ClientState → Type 0) (n i surplus : ℕ) (cs next : List ClientState) (u : Option ℕ) → TellsAt says i cs next → IsFirstWaiting cs (Some i)

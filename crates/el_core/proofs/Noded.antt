@@ -33,16 +33,16 @@ use Rattle.el_side.specs.UnderWay.{IsFirstMove, IsUnderWay, before as not_moved,
 use Rattle.el_world.specs.Flights.{later, first, IsMoveOf}
 use Rattle.el_model.proofs.LedgerMoves.{LeavesOwn, asked_none, asked_moved}
 use Rattle.el_lines.specs.LineStates.{LineState}
-use Rattle.el_sync.specs.Steps.{IsFrom, NodeStep, RoseWith, Fails, FailsBy, by_disk, by_memory, untold, in_sift, StopsAt}
+use Rattle.el_sync.specs.Steps.{IsFrom, NodeStep, RoseWith, StepFails, FailsBy, by_disk, by_memory, untold, in_sift, StopsAt}
 use Rattle.el_model.specs.declared.fault.QueryFault.{QueryFault}
 use Rattle.el_sync.specs.declared.moving.Step.{Step}
 use Rattle.el_model.specs.declared.fault.QueryFault.TheVariants as fault
 use Rattle.el_side.specs.Beneath.{Ghosts, Lost, beneath, failed_beneath}
 use Rattle.el_sync.proofs.Compared.{moving_any}
 use Rattle.el_core.specs.State.{State, NodeLeaves, NoneWaits, Stands, serving, lent}
-use Rattle.el_core.specs.Turn.{TookTurn, TurnFailed, GoesTo, outs_of, stop_of}
+use Rattle.el_core.specs.Turn.{TookTurn, TurnFailed, GoesTo, outs_of, turn_stop}
 use Rattle.el_core.specs.within.Answering.{Answered, NodeKeeps}
-use Rattle.el_core.specs.within.Clients.{Gives, begun_at}
+use Rattle.el_core.specs.within.Clients.{GivesEvent, begun_at}
 use Rattle.el_core.specs.declared.out.Outs.{Outs}
 use Rattle.el_core.proofs.Sessions.{left_first}
 use Rattle.el_core.proofs.Tellings.{tellings_led}
@@ -62,7 +62,7 @@ pub record NextOrder (b : LineState) (heard : List ℕ) (ordered : List Event) (
   pub first_is : ordered ≡ orders e ∷ rest
   pub node : NodeLeaves b heard rest
 
-pub next_order : (b next : LineState) (heard : List ℕ) (ordered : List Event) (e : LineEvent) → NodeLeaves b heard ordered → next.limit ≡ b.limit → Gives b e next
+pub next_order : (b next : LineState) (heard : List ℕ) (ordered : List Event) (e : LineEvent) → NodeLeaves b heard ordered → next.limit ≡ b.limit → GivesEvent b e next
     → NextOrder next heard ordered e
 next_order b next heard ordered e n same gives =
     let g = gives heard n.given n.at in
@@ -95,7 +95,7 @@ module _ {G A : Type 0} (of : Ghosts G A) where
       }
 
   -- nothing was done for a side that is unsure either
-  pub fails_still : (old : G) (files : A) (chain : Chain) (again : Bool) → Fails of (beneath old files) (beneath old files) chain again fault.Memory
+  pub fails_still : (old : G) (files : A) (chain : Chain) (again : Bool) → StepFails of (beneath old files) (beneath old files) chain again fault.Memory
   fails_still old files chain again = record {
     losses = [];
     fails = by_memory refl refl;
@@ -103,11 +103,11 @@ module _ {G A : Type 0} (of : Ghosts G A) where
   }
 
   -- what was lost in a step that failed
-  pub step_fails : (was now : Beneath G A) (chain : Chain) (again : Bool) (e : QueryFault) → NodeStep of was now again (Err e) → Fails of was now chain again e
+  pub step_fails : (was now : Beneath G A) (chain : Chain) (again : Bool) (e : QueryFault) → NodeStep of was now again (Err e) → StepFails of was now chain again e
   step_fails was now chain again e k = by e k.archive_rose k.disk_rose
     where
       by : (e : QueryFault) → RoseWith again (λ n. RoseBy (of.files.faults was.files) (of.files.faults now.files) n)
-          → CountsOnly {T = Step} (of.ledger.faults was.ledger) (of.ledger.faults now.ledger) fault.DiskFailed (Err e) → Fails of was now chain again e
+          → CountsOnly {T = Step} (of.ledger.faults was.ledger) (of.ledger.faults now.ledger) fault.DiskFailed (Err e) → StepFails of was now chain again e
       by fault.DiskFailed (inl none) counts = record {
         losses = deed.lost deed.disk ∷ [];
         fails = by_disk refl refl;
@@ -192,9 +192,9 @@ module _ {G A : Type 0} (of : Ghosts G A) where
       subst (λ (m : State G). (side : Side) (start : Chain) → IsAt of (beneath m.ledger before) m.holdings m.caches side start → IsFrom m.holdings side
       → Leads of (OrdersLine of.files side e) side start (record left { was = beneath m.ledger before })) same led
 
-  pub fails_begun : (s mid : State G) (new : G) (before after : A) (tip : Option Hash32) (chain : Chain) (why : QueryFault) → mid ≡ begun_at tip s → Fails of (beneath mid.ledger before) (beneath new after) chain false why
-      → Fails of (beneath s.ledger before) (beneath new after) chain false why
-  fails_begun s mid new before after tip chain why same fails = subst (λ (m : State G). Fails of (beneath m.ledger before) (beneath new after) chain false why) same fails
+  pub fails_begun : (s mid : State G) (new : G) (before after : A) (tip : Option Hash32) (chain : Chain) (why : QueryFault) → mid ≡ begun_at tip s → StepFails of (beneath mid.ledger before) (beneath new after) chain false why
+      → StepFails of (beneath s.ledger before) (beneath new after) chain false why
+  fails_begun s mid new before after tip chain why same fails = subst (λ (m : State G). StepFails of (beneath m.ledger before) (beneath new after) chain false why) same fails
 
   pub keeps_begun : (s mid : State G) (new : G) (before after : A) (tip : Option Hash32) (result : Result Outs QueryFault) → mid ≡ begun_at tip s → NodeKeeps of (beneath mid.ledger before) (beneath new after) result → NodeKeeps of (beneath s.ledger before) (beneath new after) result
   keeps_begun s mid new before after tip result same keeps = subst (λ (m : State G). NodeKeeps of (beneath m.ledger before) (beneath new after) result) same keeps
@@ -296,7 +296,7 @@ module _ {G A : Type 0} (of : Ghosts G A) where
       → TurnFailed of (beneath old before) (beneath new after) world left e
   failed_so old new before after world left again e nodes busy sure r (by_disk is lost) live = record {
     losses = r.losses;
-    stops = run.disk_failed (ap stop_of is) nodes refl refl lost;
+    stops = run.disk_failed (ap turn_stop is) nodes refl refl lost;
     within = tt;
     rose = r.rose;
     later = again;
@@ -306,7 +306,7 @@ module _ {G A : Type 0} (of : Ghosts G A) where
   }
   failed_so old new before after world left again e nodes busy sure r (by_memory is lost) live = record {
     losses = r.losses;
-    stops = run.no_memory (ap stop_of is) nodes refl refl lost;
+    stops = run.no_memory (ap turn_stop is) nodes refl refl lost;
     within = tt;
     rose = r.rose;
     later = again;
@@ -316,7 +316,7 @@ module _ {G A : Type 0} (of : Ghosts G A) where
   }
   failed_so old new before after world left again e nodes busy sure r (untold is_later is lost same) live = record {
     losses = r.losses;
-    stops = run.untold (ap stop_of is) (busy is_later) refl refl lost;
+    stops = run.untold (ap turn_stop is) (busy is_later) refl refl lost;
     within = tt;
     rose = r.rose;
     later = again;
@@ -326,7 +326,7 @@ module _ {G A : Type 0} (of : Ghosts G A) where
   }
   failed_so old new before after world left again e nodes busy sure r (in_sift is_later is lost same) live = record {
     losses = r.losses;
-    stops = run.sift_failed (ap stop_of is) (busy is_later) refl refl lost;
+    stops = run.sift_failed (ap turn_stop is) (busy is_later) refl refl lost;
     within = tt;
     rose = r.rose;
     later = again;
@@ -336,11 +336,11 @@ module _ {G A : Type 0} (of : Ghosts G A) where
   }
 
   failed_unsure : (old new : G) (before after : A) (world : World) (left : List Event) (again : Bool) (e : QueryFault) → IsNodesTurn world left → (again ≡ true → IsBusy world) → world.side.sure ≡ false
-      → (r : Fails of (beneath old before) (beneath new after) world.side.chain again e) → FailsBy again world.side.chain world.side.chain e r.losses → (e ≡ fault.Memory → of.ledger.is_live new)
+      → (r : StepFails of (beneath old before) (beneath new after) world.side.chain again e) → FailsBy again world.side.chain world.side.chain e r.losses → (e ≡ fault.Memory → of.ledger.is_live new)
       → TurnFailed of (beneath old before) (beneath new after) world left e
   failed_unsure old new before after world left again e nodes busy un r (by_disk is lost) live = record {
     losses = r.losses;
-    stops = run.disk_failed (ap stop_of is) nodes refl refl lost;
+    stops = run.disk_failed (ap turn_stop is) nodes refl refl lost;
     within = tt;
     rose = r.rose;
     later = again;
@@ -350,7 +350,7 @@ module _ {G A : Type 0} (of : Ghosts G A) where
   }
   failed_unsure old new before after world left again e nodes busy un r (by_memory is lost) live = record {
     losses = r.losses;
-    stops = run.no_memory (ap stop_of is) nodes refl refl lost;
+    stops = run.no_memory (ap turn_stop is) nodes refl refl lost;
     within = tt;
     rose = r.rose;
     later = again;
@@ -360,7 +360,7 @@ module _ {G A : Type 0} (of : Ghosts G A) where
   }
   failed_unsure old new before after world left again e nodes busy un r (untold is_later is lost same) live = record {
     losses = r.losses;
-    stops = run.untold (ap stop_of is) (busy is_later) refl refl lost;
+    stops = run.untold (ap turn_stop is) (busy is_later) refl refl lost;
     within = tt;
     rose = r.rose;
     later = again;
@@ -370,7 +370,7 @@ module _ {G A : Type 0} (of : Ghosts G A) where
   }
   failed_unsure old new before after world left again e nodes busy un r (in_sift is_later is lost same) live = record {
     losses = r.losses;
-    stops = run.sift_failed (ap stop_of is) (busy is_later) refl refl lost;
+    stops = run.sift_failed (ap turn_stop is) (busy is_later) refl refl lost;
     within = tt;
     rose = r.rose;
     later = again;
@@ -399,7 +399,7 @@ module _ {G A : Type 0} (of : Ghosts G A) where
 
   pub ahead_failed : (old new : G) (before after : A) (world : World) (left : List Event) (e : QueryFault) → (world.side.ahead ≡ [] → ⊥)
       → (e ≡ fault.Memory → of.ledger.is_live new) → (IsSure world.side → StopsAt of (beneath old before) (beneath new after) world.side.chain true (λ (p : Plan). p ≡ plan_of 0 world.side.ahead) e)
-      → (world.side.sure ≡ false → Fails of (beneath old before) (beneath new after) world.side.chain true e)
+      → (world.side.sure ≡ false → StepFails of (beneath old before) (beneath new after) world.side.chain true e)
       → TurnFailed of (beneath old before) (beneath new after) world left e
   ahead_failed old new before after world left e some live of_sure of_unsure =
       let busy = moving_any 0 world.side.ahead some in
@@ -411,7 +411,7 @@ module _ {G A : Type 0} (of : Ghosts G A) where
   pub line_failed : (old new : G) (before after : A) (world : World) (left rest : List Event) (e : QueryFault) (said : LineEvent)
       → IsStill world → AllTold world → left ≡ orders said ∷ rest → (e ≡ fault.Memory → of.ledger.is_live new)
       → (IsSure world.side → StopsAt of (beneath old before) (beneath new after) world.side.chain false (IsFirstMove world.side said) e)
-      → (world.side.sure ≡ false → Fails of (beneath old before) (beneath new after) world.side.chain false e) → TurnFailed of (beneath old before) (beneath new after) world left e
+      → (world.side.sure ≡ false → StepFails of (beneath old before) (beneath new after) world.side.chain false e) → TurnFailed of (beneath old before) (beneath new after) world left e
   line_failed old new before after world left rest e said still all_told is live of_sure of_unsure =
       by_sure world.side (TurnFailed of (beneath old before) (beneath new after) world left e)
       (λ sure. let s = stops_by old new before after world.side.chain false (IsFirstMove world.side said) (IsMoveOf world left) e (λ p move. first said rest still all_told is move) (of_sure sure) in

@@ -20,14 +20,14 @@ use Rattle.el_relay.specs.Desk.{DeskState}
 use Rattle.el_replies.specs.Spending.{AskedGhosts, Did}
 use Rattle.el_side.specs.Side.{Side, IsSure}
 use Rattle.el_world.specs.World as model
-use Rattle.el_world.specs.World.{World, Session, Event, IsStill, AllTold, joins, says, orders, leaves, Takes, Outs, Standing, standing, Comes, outs_of_reply, after_reply, nothing, closes_long, closes_memory, closes_surplus, is_client, is_peer, without_client, line_limit}
+use Rattle.el_world.specs.World.{World, Session, Event, IsStill, AllTold, joins, says, orders, leaves, Takes, Outs, Standing, standing_of, Comes, outs_of_reply, after_reply, nothing, closes_long, closes_memory, closes_surplus, is_client, is_peer, without_client, line_limit}
 use Rattle.el_world.specs.Run as run
 use Rattle.el_world.specs.Run.{OneTurn, Turns}
-use Rattle.el_lines.specs.LineStates.{LineState, IsAt}
+use Rattle.el_lines.specs.LineStates.{LineState, WasFed}
 use Rattle.el_lines.specs.declared.line_buffer.LineEvent.TheVariants as event
-use Rattle.el_core.specs.State.{State, ClientState, HasGivenAll, HearsLeft, in_order, IsSession, SessionsAre, Leaves, NoneWaits, Tellings, AllVoid, IsSaidBy, NodeLeaves, Stands, is_numbered, lent, asking_of}
+use Rattle.el_core.specs.State.{State, ClientState, HasGivenAll, HearsLeft, in_order, IsSession, SessionsAre, AreEventsLeft, NoneWaits, Tellings, AllVoid, IsSaidBy, NodeLeaves, Stands, is_numbered, lent, asking_of}
 use Rattle.el_core.specs.Turn.{TookTurn, IsDone, GoesTo, outs_of}
-use Rattle.el_core.specs.within.Clients.{Passing, passing, IsIdly, LineAnswered, replied, starved, Gives, ClientTurn, loses, departs, answers, waits, nobody, gone, steps, PeersTurn, closes, has_turn, replaced, left_if, speaker_after}
+use Rattle.el_core.specs.within.Clients.{Passing, passing, IsIdly, LineAnswered, replied, starved, GivesEvent, ClientTurn, loses, departs, answers, waits, nobody, gone, steps, PeersTurn, closes, has_turn, client_replaced, left_if, speaker_after}
 use Rattle.el_core.specs.declared.out.Outs as code
 use Rattle.el_core.proofs.Places.{Both, IfThere, same_some, no_some, zip_at, zip_replaced, all_at, all_replaced, rising_replaced, one_mapped, one_filtered, one_found, one_there, gone_itself, found_none, none_there}
 use Rattle.el_world.proofs.KeepTold.{replies_keep_told}
@@ -46,11 +46,11 @@ none_ordered b heard ordered n all =
 pub record NextEvent (c : ClientState) (b : LineState) (e : LineEvent) (heard : List ℕ) (left : List Event) : Type 0 where
   pub given : ℕ
   pub first : left ≡ says c.peer e ∷ map (says c.peer) (drop (given + 1) (lines line_limit heard))
-  pub at : IsAt b heard (given + 1)
+  pub at : WasFed b heard (given + 1)
   pub few : given + 1 ≤ length (lines line_limit heard)
 
 next_event : (c : ClientState) (b : LineState) (e : LineEvent) (heard : List ℕ) (left : List Event) → c.lost ≡ false → c.buffer.limit ≡ line_limit → HearsLeft c heard left
-    → Gives c.buffer e b → NextEvent c b e heard left
+    → GivesEvent c.buffer e b → NextEvent c b e heard left
 next_event c b e heard left kept limit hears gives =
     let o = ordered c heard left kept hears in
     let g = gives heard o.given o.at in
@@ -65,8 +65,8 @@ next_event c b e heard left kept limit hears gives =
 -- the clients and sessions where the one that speaks changes, or goes
 speaker_changes : (clients : List ClientState) (sessions : List Session) (p i : ℕ) (c : ClientState) (x : Session) (left rest : List Event) (speaker : Option ℕ) (now : Option ClientState) (session : Option Session)
     → SessionsAre clients (Some p) None sessions left → slice_get sessions i ≡ Some x → x.peer ≡ p → (speaker ≡ Some p) ⊎ (speaker ≡ None) → Both (IsSession speaker rest) now session
-    → IfThere (λ (n : Session). n.peer ≡ x.peer) session → Leaves speaker None (replaced i session sessions) rest
-    → SessionsAre (replaced i now clients) speaker None (replaced i session sessions) rest
+    → IfThere (λ (n : Session). n.peer ≡ x.peer) session → AreEventsLeft speaker None (client_replaced i session sessions) rest
+    → SessionsAre (client_replaced i now clients) speaker None (client_replaced i session sessions) rest
 speaker_changes clients sessions p i c x left rest speaker now session are at is either_is both same leaves_left = record {
   each = zip_replaced (IsSession (Some p) left) (IsSession speaker rest) clients sessions i x now session are.each are.rising at
       (λ d y r differ. record {
@@ -85,12 +85,12 @@ speaker_changes clients sessions p i c x left rest speaker now session are at is
     other d y r differ (inl s) e = differ (sym r.peer ∙ sym (same_number p d.peer (sym s ∙ e)) ∙ sym is)
     other d y r differ (inr s) e = no_some d.peer (sym e ∙ s)
 
-replaced_same : (ys : List Session) (i : ℕ) (x : Session) → slice_get ys i ≡ Some x → replaced i (Some x) ys ≡ ys
+replaced_same : (ys : List Session) (i : ℕ) (x : Session) → slice_get ys i ≡ Some x → client_replaced i (Some x) ys ≡ ys
 replaced_same [] i x at = refl
 replaced_same (y ∷ ys) zero x at = ap (λ (t : Session). t ∷ ys) (sym (same_some y x at))
 replaced_same (y ∷ ys) (suc i) x at = ap (λ (l : List Session). y ∷ l) (replaced_same ys i x at)
 
-pub at_replaced : (ys : List Session) (j : ℕ) (y n : Session) → slice_get ys j ≡ Some y → slice_get (replaced j (Some n) ys) j ≡ Some n
+pub at_replaced : (ys : List Session) (j : ℕ) (y n : Session) → slice_get ys j ≡ Some y → slice_get (client_replaced j (Some n) ys) j ≡ Some n
 at_replaced [] j y n at = absurd (no_some y (sym at))
 at_replaced (u ∷ ys) zero y n at = refl
 at_replaced (u ∷ ys) (suc j) y n at = at_replaced ys j y n at
@@ -209,36 +209,36 @@ module _ {G A Y : Type 0} (of : AskedGhosts G A Y) where
   -- the client is closed, with these events done
   goes : (old new : State G) (before after : A) (y z : Y) (world : World) (left : List Event) (o : Outs) (r : Beside old new world left) (told : of.beneath.files.tells → AllGrow world.side.files (of.beneath.files.bytes after)) (p i : ℕ) (c : ClientState) (w : Speaking old world r.stood.said p i c)
       (done rest : List Event) (losses : List Deed) → left ≡ done ++ rest → OneTurn of.beneath.files world done o losses (without_client p (record world { desk = new.desk })) → AllVoid (filter (λ (y : Session). not (is_peer p y)) world.sessions) rest
-      → new.clients ≡ replaced i None old.clients → new.speaker ≡ None → new.surplus ≡ None → ((next : World) → AllByRecursion (GoesTo next None o.closing) o.messages) → Did of (asking_of (lent old before y)) (asking_of (lent new after z)) losses
+      → new.clients ≡ client_replaced i None old.clients → new.speaker ≡ None → new.surplus ≡ None → ((next : World) → AllByRecursion (GoesTo next None o.closing) o.messages) → Did of (asking_of (lent old before y)) (asking_of (lent new after z)) losses
       → TookTurn of (lent old before y) (lent new after z) world left o
   goes old new before after y z world left o r told p i c w done rest losses whole turn void clients speaker unused sends rose =
       let gone_is = one_filtered p world.sessions i w.session w.are.rising w.session_at w.peer in
-      let void' : AllVoid (replaced i None world.sessions) rest = subst (λ (ss : List Session). AllVoid ss rest) gone_is void in
-      let turn' : OneTurn of.beneath.files world done o losses (record world { sessions = replaced i None world.sessions; desk = new.desk }) =
+      let void' : AllVoid (client_replaced i None world.sessions) rest = subst (λ (ss : List Session). AllVoid ss rest) gone_is void in
+      let turn' : OneTurn of.beneath.files world done o losses (record world { sessions = client_replaced i None world.sessions; desk = new.desk }) =
       subst (λ (ss : List Session). OneTurn of.beneath.files world done o losses (record world { sessions = ss; desk = new.desk })) gone_is turn in
-      built old new before after y z world left o r told (replaced i None world.sessions) done rest losses whole turn'
+      built old new before after y z world left o r told (client_replaced i None world.sessions) done rest losses whole turn'
       (rw (clients, speaker, unused) (speaker_changes old.clients world.sessions p i c w.session r.stood.said rest None None None w.are w.session_at w.peer (inr refl) tt tt void'))
-      (λ q e. absurd (no_some q (sym e ∙ speaker))) unused (tellings_replaced world.side r.stood.start old.touched world.sessions i None r.stood.tellings (λ sure. tt) (λ sure. tt) r.still) (rw unused (sends (record world { sessions = replaced i None world.sessions; desk = new.desk }))) rose
+      (λ q e. absurd (no_some q (sym e ∙ speaker))) unused (tellings_replaced world.side r.stood.start old.touched world.sessions i None r.stood.tellings (λ sure. tt) (λ sure. tt) r.still) (rw unused (sends (record world { sessions = client_replaced i None world.sessions; desk = new.desk }))) rose
 
   -- the client stays with this session, and these events are left
   stays : (old new : State G) (before after : A) (y z : Y) (world : World) (left : List Event) (o : Outs) (r : Beside old new world left) (told : of.beneath.files.tells → AllGrow world.side.files (of.beneath.files.bytes after)) (p i : ℕ) (c now : ClientState) (x : Session) (w : Speaking old world r.stood.said p i c)
-      (done rest : List Event) (losses : List Deed) → x.peer ≡ w.session.peer → x.waits ≡ w.session.waits → (IsSure world.side → status_told.AllTold (status world.side.chain world.side.kept) x.client.subs) → left ≡ done ++ rest → OneTurn of.beneath.files world done o losses (record world { sessions = replaced i (Some x) world.sessions; desk = new.desk })
-      → IsSession (Some p) rest now x → new.clients ≡ replaced i (Some now) old.clients → new.speaker ≡ Some p → new.surplus ≡ None
-      → AllByRecursion (GoesTo (record world { sessions = replaced i (Some x) world.sessions; desk = new.desk }) None o.closing) o.messages → Did of (asking_of (lent old before y)) (asking_of (lent new after z)) losses
+      (done rest : List Event) (losses : List Deed) → x.peer ≡ w.session.peer → x.waits ≡ w.session.waits → (IsSure world.side → status_told.AllTold (status world.side.chain world.side.kept) x.client.subs) → left ≡ done ++ rest → OneTurn of.beneath.files world done o losses (record world { sessions = client_replaced i (Some x) world.sessions; desk = new.desk })
+      → IsSession (Some p) rest now x → new.clients ≡ client_replaced i (Some now) old.clients → new.speaker ≡ Some p → new.surplus ≡ None
+      → AllByRecursion (GoesTo (record world { sessions = client_replaced i (Some x) world.sessions; desk = new.desk }) None o.closing) o.messages → Did of (asking_of (lent old before y)) (asking_of (lent new after z)) losses
       → TookTurn of (lent old before y) (lent new after z) world left o
   stays old new before after y z world left o r told p i c now x w done rest losses same waits_same statuses whole turn session clients speaker unused sends rose =
       let quiet_before = none_wait_world world.sessions r.all_told in
       let start_is = r.stood.set.still r.still in
-      built old new before after y z world left o r told (replaced i (Some x) world.sessions) done rest losses whole turn
+      built old new before after y z world left o r told (client_replaced i (Some x) world.sessions) done rest losses whole turn
       (rw (clients, speaker, unused) (speaker_changes old.clients world.sessions p i c w.session r.stood.said rest (Some p) (Some now) (Some x) w.are w.session_at w.peer (inl refl) session same
-      (one_there p (replaced i (Some x) world.sessions) i x (at_replaced world.sessions i w.session x w.session_at) (same ∙ w.peer))))
+      (one_there p (client_replaced i (Some x) world.sessions) i x (at_replaced world.sessions i w.session x w.session_at) (same ∙ w.peer))))
       (λ q e. all_replaced _ world.sessions i (Some x) quiet_before (waits_same ∙ all_at _ world.sessions i w.session quiet_before w.session_at)) unused
       (tellings_replaced world.side r.stood.start old.touched world.sessions i (Some x) r.stood.tellings (λ sure. untouched_of world.side r.stood.start old.touched x.client.subs start_is (statuses sure)) (λ sure e. statuses sure) r.still)
       (rw unused sends) rose
 
   -- it is closed as out of memory, for its bytes or a line of them
   memory_step : (old new : State G) (before after : A) (y z : Y) (world : World) (left : List Event) (o : Outs) (r : Beside old new world left) (told : of.beneath.files.tells → AllGrow world.side.files (of.beneath.files.bytes after)) (p i : ℕ) (c : ClientState) (w : Speaking old world r.stood.said p i c)
-      → c.peer ≡ p → new.clients ≡ replaced i None old.clients → new.speaker ≡ None → new.surplus ≡ None → o ≡ closes_memory p → IsIdly (passing of (asking_of (lent old before y)) (asking_of (lent new after z)))
+      → c.peer ≡ p → new.clients ≡ client_replaced i None old.clients → new.speaker ≡ None → new.surplus ≡ None → o ≡ closes_memory p → IsIdly (passing of (asking_of (lent old before y)) (asking_of (lent new after z)))
       → TookTurn of (lent old before y) (lent new after z) world left o
   memory_step old new before after y z world left o r told p i c w peer_is clients speaker unused is still =
       let said_is = left_said old new world left r in
@@ -248,7 +248,7 @@ module _ {G A Y : Type 0} (of : AskedGhosts G A Y) where
 
   -- it is closed after its next event
   closed_step : (old new : State G) (before after : A) (y z : Y) (world : World) (left : List Event) (o : Outs) (r : Beside old new world left) (told : of.beneath.files.tells → AllGrow world.side.files (of.beneath.files.bytes after)) (p i : ℕ) (c : ClientState) (b : LineState)
-      (e : LineEvent) (losses : List Deed) (w : Speaking old world r.stood.said p i c) → c.peer ≡ p → c.lost ≡ false → Gives c.buffer e b → new.clients ≡ replaced i None old.clients → new.speaker ≡ None → new.surplus ≡ None
+      (e : LineEvent) (losses : List Deed) (w : Speaking old world r.stood.said p i c) → c.peer ≡ p → c.lost ≡ false → GivesEvent c.buffer e b → new.clients ≡ client_replaced i None old.clients → new.speaker ≡ None → new.surplus ≡ None
       → Takes of.beneath.files world (says p e) o losses (without_client p (record world { desk = new.desk })) → ((next : World) → AllByRecursion (GoesTo next None o.closing) o.messages) → Did of (asking_of (lent old before y)) (asking_of (lent new after z)) losses
       → TookTurn of (lent old before y) (lent new after z) world left o
   closed_step old new before after y z world left o r told p i c b e losses w peer_is kept gives clients speaker unused takes sends rose =
@@ -262,7 +262,7 @@ module _ {G A Y : Type 0} (of : AskedGhosts G A Y) where
 
   -- a line that is too long closes it
   long_step : (old new : State G) (before after : A) (y z : Y) (world : World) (left : List Event) (o : Outs) (r : Beside old new world left) (told : of.beneath.files.tells → AllGrow world.side.files (of.beneath.files.bytes after)) (p i : ℕ) (c : ClientState) (b : LineState)
-      (w : Speaking old world r.stood.said p i c) → c.peer ≡ p → c.lost ≡ false → Gives c.buffer too_long b → new.clients ≡ replaced i None old.clients → new.speaker ≡ None → new.surplus ≡ None → o ≡ closes_long p → IsIdly (passing of (asking_of (lent old before y)) (asking_of (lent new after z)))
+      (w : Speaking old world r.stood.said p i c) → c.peer ≡ p → c.lost ≡ false → GivesEvent c.buffer too_long b → new.clients ≡ client_replaced i None old.clients → new.speaker ≡ None → new.surplus ≡ None → o ≡ closes_long p → IsIdly (passing of (asking_of (lent old before y)) (asking_of (lent new after z)))
       → TookTurn of (lent old before y) (lent new after z) world left o
   long_step old new before after y z world left o r told p i c b w peer_is kept gives clients speaker unused is still =
       let there = one_there p world.sessions i w.session w.session_at w.peer in
@@ -277,12 +277,12 @@ module _ {G A Y : Type 0} (of : AskedGhosts G A Y) where
 
   -- no memory was found for its line
   starved_step : (old new : State G) (before after : A) (y z : Y) (world : World) (left : List Event) (o : Outs) (r : Beside old new world left) (told : of.beneath.files.tells → AllGrow world.side.files (of.beneath.files.bytes after)) (p i : ℕ) (c : ClientState) (b : LineState)
-      (bytes : List ℕ) (now : known.Session) (losses : List Deed) (e : OutOfMemory) (w : Speaking old world r.stood.said p i c) → c.peer ≡ p → c.lost ≡ false → Gives c.buffer (line bytes) b
-      → new.clients ≡ replaced i None old.clients → new.speaker ≡ None → new.surplus ≡ None
-      → Comes of.beneath.files.tells world.side bytes (standing c.session old.desk) losses (standing now new.desk) (Err e) → o ≡ closes_memory p → Did of (asking_of (lent old before y)) (asking_of (lent new after z)) losses
+      (bytes : List ℕ) (now : known.Session) (losses : List Deed) (e : OutOfMemory) (w : Speaking old world r.stood.said p i c) → c.peer ≡ p → c.lost ≡ false → GivesEvent c.buffer (line bytes) b
+      → new.clients ≡ client_replaced i None old.clients → new.speaker ≡ None → new.surplus ≡ None
+      → Comes of.beneath.files.tells world.side bytes (standing_of c.session old.desk) losses (standing_of now new.desk) (Err e) → o ≡ closes_memory p → Did of (asking_of (lent old before y)) (asking_of (lent new after z)) losses
       → TookTurn of (lent old before y) (lent new after z) world left o
   starved_step old new before after y z world left o r told p i c b bytes now losses e w peer_is kept gives clients speaker unused comes is rose =
-      let comes' = subst (λ (s : Standing). Comes of.beneath.files.tells world.side bytes s losses (standing now new.desk) (Err e)) (rw (w.is.kept, r.stood.desk) refl) comes in
+      let comes' = subst (λ (s : Standing). Comes of.beneath.files.tells world.side bytes s losses (standing_of now new.desk) (Err e)) (rw (w.is.kept, r.stood.desk) refl) comes in
       closed_step old new before after y z world left o r told p i c b (line bytes) losses w peer_is kept gives clients speaker unused
       (line_takes old world r.stood.said o p i c w bytes losses (without_client p (record world { desk = new.desk })) (model.starved e now new.desk comes' is refl)) (λ next. rw is tt) rose
 
@@ -295,12 +295,12 @@ module _ {G A Y : Type 0} (of : AskedGhosts G A Y) where
 
   -- it gets its reply, after which it is closed
   version_step : (old new : State G) (before after : A) (y z : Y) (world : World) (left : List Event) (o : Outs) (r : Beside old new world left) (told : of.beneath.files.tells → AllGrow world.side.files (of.beneath.files.bytes after)) (p i : ℕ) (c : ClientState) (b : LineState)
-      (bytes : List ℕ) (now : known.Session) (losses : List Deed) (reply : LineReply) (w : Speaking old world r.stood.said p i c) → c.peer ≡ p → c.lost ≡ false → Gives c.buffer (line bytes) b
-      → new.clients ≡ replaced i None old.clients → new.speaker ≡ None → new.surplus ≡ None
-      → Comes of.beneath.files.tells world.side bytes (standing c.session old.desk) losses (standing now new.desk) (Ok reply) → reply.closes ≡ true → o ≡ outs_of_reply p reply → Did of (asking_of (lent old before y)) (asking_of (lent new after z)) losses
+      (bytes : List ℕ) (now : known.Session) (losses : List Deed) (reply : LineReply) (w : Speaking old world r.stood.said p i c) → c.peer ≡ p → c.lost ≡ false → GivesEvent c.buffer (line bytes) b
+      → new.clients ≡ client_replaced i None old.clients → new.speaker ≡ None → new.surplus ≡ None
+      → Comes of.beneath.files.tells world.side bytes (standing_of c.session old.desk) losses (standing_of now new.desk) (Ok reply) → reply.closes ≡ true → o ≡ outs_of_reply p reply → Did of (asking_of (lent old before y)) (asking_of (lent new after z)) losses
       → TookTurn of (lent old before y) (lent new after z) world left o
   version_step old new before after y z world left o r told p i c b bytes now losses reply w peer_is kept gives clients speaker unused comes closes_it is rose =
-      let comes' = subst (λ (s : Standing). Comes of.beneath.files.tells world.side bytes s losses (standing now new.desk) (Ok reply)) (rw (w.is.kept, r.stood.desk) refl) comes in
+      let comes' = subst (λ (s : Standing). Comes of.beneath.files.tells world.side bytes s losses (standing_of now new.desk) (Ok reply)) (rw (w.is.kept, r.stood.desk) refl) comes in
       let next_is : without_client p (record world { desk = new.desk }) ≡ after_reply p reply w.session now (record world { desk = new.desk }) = rw closes_it refl in
       closed_step old new before after y z world left o r told p i c b (line bytes) losses w peer_is kept gives clients speaker unused
       (line_takes old world r.stood.said o p i c w bytes losses (without_client p (record world { desk = new.desk })) (model.replied reply now new.desk comes' is next_is))
@@ -308,15 +308,15 @@ module _ {G A Y : Type 0} (of : AskedGhosts G A Y) where
 
   -- it gets its reply, and stays
   reply_step : (old new : State G) (before after : A) (y z : Y) (world : World) (left : List Event) (o : Outs) (r : Beside old new world left) (told : of.beneath.files.tells → AllGrow world.side.files (of.beneath.files.bytes after)) (p i : ℕ) (c : ClientState) (b : LineState)
-      (bytes : List ℕ) (now : known.Session) (losses : List Deed) (reply : LineReply) (w : Speaking old world r.stood.said p i c) → c.peer ≡ p → c.lost ≡ false → b.limit ≡ c.buffer.limit → Gives c.buffer (line bytes) b
-      → new.clients ≡ replaced i (Some (record c { buffer = b; session = now })) old.clients → new.speaker ≡ Some p → new.surplus ≡ None
-      → Comes of.beneath.files.tells world.side bytes (standing c.session old.desk) losses (standing now new.desk) (Ok reply) → reply.closes ≡ false → o ≡ outs_of_reply p reply → Did of (asking_of (lent old before y)) (asking_of (lent new after z)) losses
+      (bytes : List ℕ) (now : known.Session) (losses : List Deed) (reply : LineReply) (w : Speaking old world r.stood.said p i c) → c.peer ≡ p → c.lost ≡ false → b.limit ≡ c.buffer.limit → GivesEvent c.buffer (line bytes) b
+      → new.clients ≡ client_replaced i (Some (record c { buffer = b; session = now })) old.clients → new.speaker ≡ Some p → new.surplus ≡ None
+      → Comes of.beneath.files.tells world.side bytes (standing_of c.session old.desk) losses (standing_of now new.desk) (Ok reply) → reply.closes ≡ false → o ≡ outs_of_reply p reply → Did of (asking_of (lent old before y)) (asking_of (lent new after z)) losses
       → TookTurn of (lent old before y) (lent new after z) world left o
   reply_step old new before after y z world left o r told p i c b bytes now losses reply w peer_is kept limit gives clients speaker unused comes stays_open is rose =
       let n = next_event c b (line bytes) w.session.heard r.stood.said kept w.is.limit w.hears gives in
       let rest = map (says c.peer) (drop (n.given + 1) (lines line_limit w.session.heard)) in
       let x : Session = record w.session { client = now } in
-      let there = one_there p (replaced i (Some x) world.sessions) i x (at_replaced world.sessions i w.session x w.session_at) w.peer in
+      let there = one_there p (client_replaced i (Some x) world.sessions) i x (at_replaced world.sessions i w.session x w.session_at) w.peer in
       let session : IsSession (Some p) rest (record c { buffer = b; session = now }) x = record {
         peer = w.is.peer;
         limit = limit ∙ w.is.limit;
@@ -325,20 +325,20 @@ module _ {G A Y : Type 0} (of : AskedGhosts G A Y) where
         met = λ e. absurd (e (ap (λ (q : ℕ). Some q) (sym peer_is)));
         speaks = λ e. in_order (n.given + 1) kept n.at n.few refl;
       } in
-      let comes' = subst (λ (s : Standing). Comes of.beneath.files.tells world.side bytes s losses (standing now new.desk) (Ok reply)) (rw (w.is.kept, r.stood.desk) refl) comes in
+      let comes' = subst (λ (s : Standing). Comes of.beneath.files.tells world.side bytes s losses (standing_of now new.desk) (Ok reply)) (rw (w.is.kept, r.stood.desk) refl) comes in
       let mapped = sym (one_mapped p (λ (y : Session). x) world.sessions i w.session w.are.rising w.session_at w.peer) in
-      let next_is : record world { sessions = replaced i (Some x) world.sessions; desk = new.desk } ≡ after_reply p reply w.session now (record world { desk = new.desk }) =
+      let next_is : record world { sessions = client_replaced i (Some x) world.sessions; desk = new.desk } ≡ after_reply p reply w.session now (record world { desk = new.desk }) =
       rw stays_open (ap (λ (ss : List Session). record world { sessions = ss; desk = new.desk }) mapped) in
       let statuses : IsSure world.side → status_told.AllTold (status world.side.chain world.side.kept) now.subs = λ sure.
       let all = all_statuses world.side r.stood.start old.touched world.sessions sure r.stood.tellings r.still (none_wait_world world.sessions r.all_told) in
       let was_told = all_at _ world.sessions i w.session all w.session_at in
-      replies_keep_told of.beneath.files.tells world.side bytes (standing w.session.client world.desk) (standing now new.desk) losses reply sure was_told comes' in
+      replies_keep_told of.beneath.files.tells world.side bytes (standing_of w.session.client world.desk) (standing_of now new.desk) losses reply sure was_told comes' in
       stays old new before after y z world left o r told p i c (record c { buffer = b; session = now }) x w (says c.peer (line bytes) ∷ []) rest losses refl refl statuses
       (left_said old new world left r ∙ n.first)
       (rw peer_is (run.takes (says p (line bytes)) r.still r.all_told refl
-      (line_takes old world r.stood.said o p i c w bytes losses (record world { sessions = replaced i (Some x) world.sessions; desk = new.desk }) (model.replied reply now new.desk comes' is next_is))))
+      (line_takes old world r.stood.said o p i c w bytes losses (record world { sessions = client_replaced i (Some x) world.sessions; desk = new.desk }) (model.replied reply now new.desk comes' is next_is))))
       session clients speaker unused
-      (rw is (reply_goes p reply.text reply.closes (record world { sessions = replaced i (Some x) world.sessions; desk = new.desk }) (λ e. there))) rose
+      (rw is (reply_goes p reply.text reply.closes (record world { sessions = client_replaced i (Some x) world.sessions; desk = new.desk }) (λ e. there))) rose
 
   same_outs : (o p : code.Outs) → ◌≡◌ {A = Option code.Outs} (Some o) (Some p) → o ≡ p
   same_outs o p e = cc
@@ -348,9 +348,9 @@ module _ {G A Y : Type 0} (of : AskedGhosts G A Y) where
 
   -- its next line
   line_step : (old new : State G) (before after : A) (y z : Y) (world : World) (left : List Event) (o : Outs) (r : Beside old new world left) (told : of.beneath.files.tells → AllGrow world.side.files (of.beneath.files.bytes after)) (p i : ℕ) (c : ClientState) (b : LineState)
-      (bytes : List ℕ) (now : known.Session) (st : Bool) (w : Speaking old world r.stood.said p i c) → c.peer ≡ p → c.lost ≡ false → b.limit ≡ c.buffer.limit → Gives c.buffer (line bytes) b
-      → (st ≡ true → (new.clients ≡ replaced i (Some (record c { buffer = b; session = now })) old.clients) × (new.speaker ≡ Some p))
-      → (st ≡ false → (new.clients ≡ replaced i None old.clients) × (new.speaker ≡ None)) → new.surplus ≡ None
+      (bytes : List ℕ) (now : known.Session) (st : Bool) (w : Speaking old world r.stood.said p i c) → c.peer ≡ p → c.lost ≡ false → b.limit ≡ c.buffer.limit → GivesEvent c.buffer (line bytes) b
+      → (st ≡ true → (new.clients ≡ client_replaced i (Some (record c { buffer = b; session = now })) old.clients) × (new.speaker ≡ Some p))
+      → (st ≡ false → (new.clients ≡ client_replaced i None old.clients) × (new.speaker ≡ None)) → new.surplus ≡ None
       → LineAnswered of.beneath.files.tells world.side (passing of (asking_of (lent old before y)) (asking_of (lent new after z))) p bytes c.session now o st
       → TookTurn of (lent old before y) (lent new after z) world left o
   line_step old new before after y z world left o r told p i c b bytes now st w peer_is kept limit gives staying going unused (starved losses e comes is st_is rose) =
@@ -366,14 +366,14 @@ module _ {G A Y : Type 0} (of : AskedGhosts G A Y) where
   ]
 
   speaker_step : (old new : State G) (before after : A) (y z : Y) (world : World) (left : List Event) (o : code.Outs) (r : Beside old new world left) (told : of.beneath.files.tells → AllGrow world.side.files (of.beneath.files.bytes after)) (p i : ℕ) (c : ClientState) (now : Option ClientState)
-      → Speaking old world r.stood.said p i c → c.peer ≡ p → new.clients ≡ replaced i now old.clients → new.speaker ≡ speaker_after (Some o) now → new.surplus ≡ None
+      → Speaking old world r.stood.said p i c → c.peer ≡ p → new.clients ≡ client_replaced i now old.clients → new.speaker ≡ speaker_after (Some o) now → new.surplus ≡ None
       → ClientTurn of.beneath.files.tells world.side (passing of (asking_of (lent old before y)) (asking_of (lent new after z))) c (Some o) now
       → TookTurn of (lent old before y) (lent new after z) world left (outs_of o)
   speaker_step old new before after y z world left o r told p i c now w peer_is clients speaker unused (loses o' lost some is gone_is still) =
-      memory_step old new before after y z world left (outs_of o) r told p i c w peer_is (clients ∙ ap (λ (n : Option ClientState). replaced i n old.clients) gone_is) (speaker ∙ ap (λ (n : Option ClientState). speaker_after (Some o) n) gone_is) unused
+      memory_step old new before after y z world left (outs_of o) r told p i c w peer_is (clients ∙ ap (λ (n : Option ClientState). client_replaced i n old.clients) gone_is) (speaker ∙ ap (λ (n : Option ClientState). speaker_after (Some o) n) gone_is) unused
       (ap outs_of (same_outs o o' some) ∙ is ∙ ap closes_memory peer_is) still
   speaker_step old new before after y z world left o r told p i c now w peer_is clients speaker unused (departs o' kept next_line some is gone_is still) =
-      memory_step old new before after y z world left (outs_of o) r told p i c w peer_is (clients ∙ ap (λ (n : Option ClientState). replaced i n old.clients) gone_is) (speaker ∙ ap (λ (n : Option ClientState). speaker_after (Some o) n) gone_is) unused
+      memory_step old new before after y z world left (outs_of o) r told p i c w peer_is (clients ∙ ap (λ (n : Option ClientState). client_replaced i n old.clients) gone_is) (speaker ∙ ap (λ (n : Option ClientState). speaker_after (Some o) n) gone_is) unused
       (ap outs_of (same_outs o o' some) ∙ is ∙ ap closes_memory peer_is) still
   speaker_step old new before after y z world left o r told p i c now w peer_is clients speaker unused (answers o' (event.Line bytes) b session st kept limit gives a now_is some) =
       let d : ClientState = record c { buffer = b; session = session } in
@@ -382,13 +382,13 @@ module _ {G A Y : Type 0} (of : AskedGhosts G A Y) where
       (subst (λ (q : ℕ). LineAnswered of.beneath.files.tells world.side (passing of (asking_of (lent old before y)) (asking_of (lent new after z))) q bytes c.session session (outs_of o') st) peer_is a) in
       line_step old new before after y z world left (outs_of o) r told p i c b bytes session st w peer_is kept limit gives
       (λ yes_it. let n : now ≡ Some d = now_is ∙ ap (λ (x : Bool). left_if x d) yes_it in
-      (clients ∙ ap (λ (m : Option ClientState). replaced i m old.clients) n, speaker ∙ ap (λ (m : Option ClientState). speaker_after (Some o) m) n ∙ ap (λ (q : ℕ). Some q) peer_is))
+      (clients ∙ ap (λ (m : Option ClientState). client_replaced i m old.clients) n, speaker ∙ ap (λ (m : Option ClientState). speaker_after (Some o) m) n ∙ ap (λ (q : ℕ). Some q) peer_is))
       (λ no_it. let n : now ≡ None = now_is ∙ ap (λ (x : Bool). left_if x d) no_it in
-      (clients ∙ ap (λ (m : Option ClientState). replaced i m old.clients) n, speaker ∙ ap (λ (m : Option ClientState). speaker_after (Some o) m) n))
+      (clients ∙ ap (λ (m : Option ClientState). client_replaced i m old.clients) n, speaker ∙ ap (λ (m : Option ClientState). speaker_after (Some o) m) n))
       unused answered
   speaker_step old new before after y z world left o r told p i c now w peer_is clients speaker unused (answers o' (event.TooLong most) b session st kept limit gives a now_is some) =
       let n : now ≡ None = now_is ∙ ap (λ (x : Bool). left_if x (record c { buffer = b; session = session })) a.1 in
-      long_step old new before after y z world left (outs_of o) r told p i c b w peer_is kept gives (clients ∙ ap (λ (m : Option ClientState). replaced i m old.clients) n) (speaker ∙ ap (λ (m : Option ClientState). speaker_after (Some o) m) n) unused
+      long_step old new before after y z world left (outs_of o) r told p i c b w peer_is kept gives (clients ∙ ap (λ (m : Option ClientState). client_replaced i m old.clients) n) (speaker ∙ ap (λ (m : Option ClientState). speaker_after (Some o) m) n) unused
       (ap outs_of (same_outs o o' some) ∙ a.0 ∙ ap closes_long peer_is) a.2
   speaker_step old new before after y z world left o r told p i c now w peer_is clients speaker unused (waits idle none_is same still) = absurd (no_outs o none_is)
 
@@ -447,7 +447,7 @@ module _ {G A Y : Type 0} (of : AskedGhosts G A Y) where
 
   -- no line of the one that speaks is left
   waited : (tells : Type 0) (side : Side) (rose : Passing) (old new : State G) (world : World) (left : List Event) (r : Beside old new world left) (p i : ℕ) (c : ClientState) (now : Option ClientState) (w : Speaking old world r.stood.said p i c)
-      → new.clients ≡ replaced i now old.clients → new.speaker ≡ None → new.surplus ≡ None → rose.was ≡ old.desk → rose.now ≡ new.desk → ClientTurn tells side rose c None now → IsDone of.beneath.ledger.stands of.beneath.files world left new
+      → new.clients ≡ client_replaced i now old.clients → new.speaker ≡ None → new.surplus ≡ None → rose.was ≡ old.desk → rose.now ≡ new.desk → ClientTurn tells side rose c None now → IsDone of.beneath.ledger.stands of.beneath.files world left new
   waited tells side rose old new world left r p i c now w clients speaker unused was_desk now_desk (loses o' lost some is gone_is still) = absurd (no_outs o' (sym some))
   waited tells side rose old new world left r p i c now w clients speaker unused was_desk now_desk (departs o' kept next_line some is gone_is still) = absurd (no_outs o' (sym some))
   waited tells side rose old new world left r p i c now w clients speaker unused was_desk now_desk (answers o' e b session st kept limit gives a now_is some) = absurd (no_outs o' (sym some))
@@ -460,13 +460,13 @@ module _ {G A Y : Type 0} (of : AskedGhosts G A Y) where
         limit = w.is.limit;
         kept = w.is.kept;
         waits = w.is.waits;
-        met = λ e. record { kept = idle.kept; at = subst (λ (n : ℕ). IsAt c.buffer w.session.heard n) all d.at };
+        met = λ e. record { kept = idle.kept; at = subst (λ (n : ℕ). WasFed c.buffer w.session.heard n) all d.at };
         speaks = λ e. absurd (no_some c.peer (sym e));
       } in
-      let are : SessionsAre (replaced i (Some c) old.clients) None None (replaced i (Some w.session) world.sessions) [] =
+      let are : SessionsAre (client_replaced i (Some c) old.clients) None None (client_replaced i (Some w.session) world.sessions) [] =
       speaker_changes old.clients world.sessions p i c w.session r.stood.said [] None (Some c) (Some w.session) w.are w.session_at w.peer (inr refl) session refl tt in
-      let are' = subst (λ (ss : List Session). SessionsAre (replaced i (Some c) old.clients) None None ss []) (replaced_same world.sessions i w.session w.session_at) are in
-      done_so old new world left r (rw (clients ∙ ap (λ (n : Option ClientState). replaced i n old.clients) now_is) are') speaker unused (sym now_desk ∙ still.desk ∙ was_desk) (rw none_after tt)
+      let are' = subst (λ (ss : List Session). SessionsAre (client_replaced i (Some c) old.clients) None None ss []) (replaced_same world.sessions i w.session w.session_at) are in
+      done_so old new world left r (rw (clients ∙ ap (λ (n : Option ClientState). client_replaced i n old.clients) now_is) are') speaker unused (sym now_desk ∙ still.desk ∙ was_desk) (rw none_after tt)
 
   -- where a turn finds nothing to do, nothing is left
   pub peers_none : (tells : Type 0) (side : Side) (rose : Passing) (old new : State G) (world : World) (left : List Event) (o : Option code.Outs) (r : Beside old new world left)

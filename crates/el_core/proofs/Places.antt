@@ -5,7 +5,7 @@ use Rattle.std.specs.List.{AllByRecursion, AllZip, list_any}
 use Rattle.el_world.specs.World.{Session, is_peer}
 use Rattle.el_lines.proofs.Cuts.{either}
 use Rattle.el_core.specs.State.{Rising}
-use Rattle.el_core.specs.within.Clients.{replaced}
+use Rattle.el_core.specs.within.Clients.{client_replaced}
 
 -- what holds of both, or nothing where neither is there
 abbrev pub Both : {A B : Type 0} → (A → B → Type 0) → Option A → Option B → Type 0
@@ -60,7 +60,7 @@ all_filter P p (x ∷ xs) all = elim (either (p x)) [
   | inr h ↦ rw h (all_filter P p xs all.1)
 ]
 
-pub all_replaced : {A : Type 0} (P : A → Type 0) (xs : List A) (i : ℕ) (left : Option A) → AllByRecursion P xs → IfThere P left → AllByRecursion P (replaced i left xs)
+pub all_replaced : {A : Type 0} (P : A → Type 0) (xs : List A) (i : ℕ) (left : Option A) → AllByRecursion P xs → IfThere P left → AllByRecursion P (client_replaced i left xs)
 all_replaced P [] i left all new = tt
 all_replaced P (x ∷ xs) zero None all new = all.1
 all_replaced P (x ∷ xs) zero (Some y) all new = (new, all.1)
@@ -83,7 +83,7 @@ module _ {A : Type 0} (R S : A → Session → Type 0) where
 
   -- both lists changed at one place, where the numbers of the others differ
   pub zip_replaced : (xs : List A) (ys : List Session) (i : ℕ) (s : Session) (left : Option A) (now : Option Session) → AllZip R xs ys → Rising ys → slice_get ys i ≡ Some s
-      → ((x : A) (y : Session) → R x y → (y.peer ≡ s.peer → ⊥) → S x y) → Both S left now → AllZip S (replaced i left xs) (replaced i now ys)
+      → ((x : A) (y : Session) → R x y → (y.peer ≡ s.peer → ⊥) → S x y) → Both S left now → AllZip S (client_replaced i left xs) (client_replaced i now ys)
   zip_replaced [] [] i s left now z up at f b = absurd (no_some s (sym at))
   zip_replaced [] (y ∷ ys) i s left now z up at f b = absurd z
   zip_replaced (x ∷ xs) [] i s left now z up at f b = absurd z
@@ -96,7 +96,7 @@ module _ {A : Type 0} (R S : A → Session → Type 0) where
       (f x y z.0 (below s.peer y.peer (all_at (λ (u : Session). y.peer < u.peer) ys i s up.0 at)), zip_replaced xs ys i s left now z.1 up.1 at f b)
 
 -- the numbers still rise
-pub rising_replaced : (ys : List Session) (i : ℕ) (s : Session) (now : Option Session) → Rising ys → slice_get ys i ≡ Some s → IfThere (λ (n : Session). n.peer ≡ s.peer) now → Rising (replaced i now ys)
+pub rising_replaced : (ys : List Session) (i : ℕ) (s : Session) (now : Option Session) → Rising ys → slice_get ys i ≡ Some s → IfThere (λ (n : Session). n.peer ≡ s.peer) now → Rising (client_replaced i now ys)
 rising_replaced [] i s now up at same = tt
 rising_replaced (y ∷ ys) zero s None up at same = up.1
 rising_replaced (y ∷ ys) zero s (Some n) up at same =
@@ -163,7 +163,7 @@ module _ (p : ℕ) where
 
   -- one session has it
   pub one_mapped : (g : Session → Session) (ys : List Session) (i : ℕ) (s : Session) → Rising ys → slice_get ys i ≡ Some s → s.peer ≡ p
-      → map (λ (y : Session). if is_peer p y then g y else y) ys ≡ replaced i (Some (g s)) ys
+      → map (λ (y : Session). if is_peer p y then g y else y) ys ≡ client_replaced i (Some (g s)) ys
   one_mapped g [] i s up at is = refl
   one_mapped g (y ∷ ys) zero s up at is =
       let e : y ≡ s = same_some y s at in
@@ -175,7 +175,7 @@ module _ (p : ℕ) where
       let e : is_peer p y ≡ false = not_same y.peer p (below p y.peer (rw is at l)) in
       rw e (ap (λ (t : List Session). y ∷ t) (one_mapped g ys i s up.1 at is))
 
-  pub one_filtered : (ys : List Session) (i : ℕ) (s : Session) → Rising ys → slice_get ys i ≡ Some s → s.peer ≡ p → filter (λ (y : Session). not (is_peer p y)) ys ≡ replaced i None ys
+  pub one_filtered : (ys : List Session) (i : ℕ) (s : Session) → Rising ys → slice_get ys i ≡ Some s → s.peer ≡ p → filter (λ (y : Session). not (is_peer p y)) ys ≡ client_replaced i None ys
   one_filtered [] i s up at is = refl
   one_filtered (y ∷ ys) zero s up at is =
       let e : y ≡ s = same_some y s at in

@@ -4,19 +4,19 @@ use Rattle.std.specs.Prelude.{slice_get, slice_set, remove, OnSome}
 use Rattle.std.proofs.lemmas.Option.{slice_get_read}
 use Rattle.el_core.specs.State.{ClientState, work_of_client}
 use Rattle.el_core.specs.declared.out.Outs.{Outs}
-use Rattle.el_core.specs.within.Clients.{replaced, left_if, all_wait, TurnsAt, TellsAt}
+use Rattle.el_core.specs.within.Clients.{client_replaced, left_if, all_wait, TurnsAt, TellsAt}
 
-pub set_is_replaced : {A : Type 0} (xs : List A) (i : ℕ) (y : A) → i < length xs → slice_set xs i y ≡ replaced i (Some y) xs
+pub set_is_replaced : {A : Type 0} (xs : List A) (i : ℕ) (y : A) → i < length xs → slice_set xs i y ≡ client_replaced i (Some y) xs
 set_is_replaced [] i y lt = absurd (omega arith)
 set_is_replaced (x ∷ xs) zero y lt = refl
 set_is_replaced {A} (x ∷ xs) (suc i) y lt = ap (λ (l : List A). x ∷ l) (set_is_replaced xs i y (omega arith))
 
-set_then_gone : {A : Type 0} (xs : List A) (i : ℕ) (y : A) → replaced i None (slice_set xs i y) ≡ replaced i None xs
+set_then_gone : {A : Type 0} (xs : List A) (i : ℕ) (y : A) → client_replaced i None (slice_set xs i y) ≡ client_replaced i None xs
 set_then_gone [] i y = refl
 set_then_gone (x ∷ xs) zero y = refl
 set_then_gone {A} (x ∷ xs) (suc i) y = ap (λ (l : List A). x ∷ l) (set_then_gone xs i y)
 
-pub remove_is_replaced : {A : Type 0} (xs : List A) (i : ℕ) → remove xs i ≡ replaced i None xs
+pub remove_is_replaced : {A : Type 0} (xs : List A) (i : ℕ) → remove xs i ≡ client_replaced i None xs
 remove_is_replaced [] zero = refl
 remove_is_replaced [] (suc i) = refl
 remove_is_replaced (x ∷ xs) zero = refl
@@ -37,7 +37,7 @@ module _ (says : ClientState → Option ClientState → Type 0) (i : ℕ) (items
   }
 
   pub turn_goes : (outs : Option Outs) (stays : Bool) (next : List ClientState) → i < length items → client ≡ get_or items i client → stays ≡ false
-      → OnSome outs (work_of_client (left_if stays new) < work_of_client (Some client)) → says client (left_if stays new) → next ≡ replaced i None (slice_set items i new)
+      → OnSome outs (work_of_client (left_if stays new) < work_of_client (Some client)) → says client (left_if stays new) → next ≡ client_replaced i None (slice_set items i new)
       → TurnsAt says i items outs false next
   turn_goes outs stays next lt is goes_so less said gone = record {
     client = client;
@@ -62,7 +62,7 @@ module _ (says : ClientState → Option ClientState → Type 0) (i : ℕ) (items
     said = rw stays_so at said;
   }
 
-  pub tell_goes : (stays : Bool) (next : List ClientState) → i < length items → client ≡ get_or items i client → stays ≡ false → says client (left_if stays new) → next ≡ replaced i None (slice_set items i new)
+  pub tell_goes : (stays : Bool) (next : List ClientState) → i < length items → client ≡ get_or items i client → stays ≡ false → says client (left_if stays new) → next ≡ client_replaced i None (slice_set items i new)
       → TellsAt says i items next
   tell_goes stays next lt is goes_so said gone = record {
     client = client;

@@ -10,7 +10,7 @@ use Rattle.el_sessions.specs.declared.session.Session as known
 use Rattle.el_lines.specs.Lines.{LineEvent, lines}
 use Rattle.el_world.specs.World.{World, Session, Event, says, is_peer, without_client, line_limit}
 use Rattle.el_lines.proofs.Cuts.{either}
-use Rattle.el_lines.specs.LineStates.{IsAt}
+use Rattle.el_lines.specs.LineStates.{WasFed}
 use Rattle.el_core.specs.State.{State, ClientState, HasGivenAll, HearsLeft, in_order, losing, IsSession, SessionsAre, AllVoid, IsSaidBy, Stands, is_numbered}
 use Rattle.el_core.specs.Arrivals.{gone_from, kept_clients, kept_speaker}
 use Rattle.el_core.proofs.Places.{differs, no_some, same_some, all_map, all_filter, rising_filter, gone_found, gone_itself, there_still}
@@ -38,7 +38,7 @@ left_none F ls given all = ap (map F) (drop_all given ls (omega arith))
 -- the lines of a client whose bytes were all kept are left in order
 pub record Ordered (c : ClientState) (heard : List ℕ) (left : List Event) : Type 0 where
   pub given : ℕ
-  pub at : IsAt c.buffer heard given
+  pub at : WasFed c.buffer heard given
   pub few : given ≤ length (lines line_limit heard)
   pub left_is : left ≡ map (says c.peer) (drop given (lines line_limit heard))
 
@@ -57,7 +57,7 @@ hears_told c heard left session waits (in_order given kept at few is) = in_order
 hears_told c heard left session waits (losing lost all) = losing lost all
 
 -- all lines were met
-pub all_met : (c : ClientState) (heard : List ℕ) (given : ℕ) → c.buffer.limit ≡ line_limit → HasGivenAll c.buffer → IsAt c.buffer heard given → given ≡ length (lines line_limit heard)
+pub all_met : (c : ClientState) (heard : List ℕ) (given : ℕ) → c.buffer.limit ≡ line_limit → HasGivenAll c.buffer → WasFed c.buffer heard given → given ≡ length (lines line_limit heard)
 all_met c heard given limit all at = all heard given at ∙ ap (λ (l : ℕ). length (lines l heard)) limit
 
 -- ---- zips

@@ -22,7 +22,7 @@ use Rattle.el_side.specs.Plans.{back_of, rest_of, plan_of}
 use Rattle.el_side.specs.Side as side_of
 use Rattle.el_side.proofs.Settled.{not_both}
 use Rattle.el_side.specs.Side.{Side, IsSure, IsSaid, Looks, Moving, GoesUnsure, GoesAlong, Orders, OrdersLine, Tips, Adds, Drops}
-use Rattle.el_sync.specs.Steps.{by_memory, untold, Fails, StopsAt}
+use Rattle.el_sync.specs.Steps.{by_memory, untold, StepFails, StopsAt}
 use Rattle.el_model.specs.declared.fault.QueryFault.TheVariants as fault
 use Rattle.el_side.specs.Beneath.{Beneath, Ghosts, Lost}
 
@@ -207,17 +207,17 @@ line_offers f side answer losses next e orders = none_offered answer losses (los
 
 module _ {G A : Type 0} (of : Ghosts G A) where
   fails_so : (was now : Beneath G A) (chain : Chain) (later : Bool) (answer : NodeAnswer) (losses : List Deed) → (answer ≡ say.Refused refusal.Archive → later ≡ true) → Lost of was now losses
-      → LostOrNot answer losses → Fails of was now chain later fault.Memory
+      → LostOrNot answer losses → StepFails of was now chain later fault.Memory
   fails_so was now chain later answer losses again rose (inl none) = record { losses = losses; fails = by_memory refl none; rose = rose }
   fails_so was now chain later answer losses again rose (inr one) = record { losses = losses; fails = untold (again one.0) refl one.1 refl; rose = rose }
 
   -- no memory was found after a later move of a tip line
-  pub move_fails : (side : Side) (start : Chain) (rest : List Node) (left : StepLeft G A) → Leads of (Moving of.files side 0 rest) side start left → Fails of left.was left.now side.chain true fault.Memory
+  pub move_fails : (side : Side) (start : Chain) (rest : List Node) (left : StepLeft G A) → Leads of (Moving of.files side 0 rest) side start left → StepFails of left.was left.now side.chain true fault.Memory
   move_fails side start rest left led =
       fails_so left.was left.now side.chain true left.answer led.losses (λ says. refl) led.rose (lost_moving of.files side left.answer led.losses led.next 0 rest led.led)
 
   -- nor after a line, whose answer isn't that the block files failed
   pub line_fails : (side : Side) (start : Chain) (e : LineEvent) (left : StepLeft G A) → (left.answer ≡ say.Refused refusal.Archive → ⊥) → Leads of (OrdersLine of.files side e) side start left
-      → Fails of left.was left.now side.chain false fault.Memory
+      → StepFails of left.was left.now side.chain false fault.Memory
   line_fails side start e left apart led =
       fails_so left.was left.now side.chain false left.answer led.losses (λ says. absurd (apart says)) led.rose (lost_line of.files side left.answer led.losses led.next e led.led)

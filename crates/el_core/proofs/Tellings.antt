@@ -13,7 +13,7 @@ use Rattle.el_side.specs.NodeSteps.{Touches}
 use Rattle.el_side.specs.Side.{Side, IsSure}
 use Rattle.el_world.specs.World.{Session, Event, is_peer}
 use Rattle.el_core.specs.State.{ClientState, IsSession, IsUntouched, NoneWaits, Tellings, waiting}
-use Rattle.el_core.specs.within.Clients.{replaced}
+use Rattle.el_core.specs.within.Clients.{client_replaced}
 use Rattle.el_core.specs.within.Touching.{is_held, CoversAll}
 use Rattle.el_core.proofs.Places.{IfThere, no_some, same_some, all_map, all_mapped, all_filter, all_replaced}
 
@@ -94,7 +94,7 @@ tellings_gone side start touched sessions p t = record {
 pub tellings_replaced : (side : Side) (start : Chain) (touched : List Hash32) (sessions : List Session) (i : ℕ) (session : Option Session) → Tellings side start touched sessions
     → (IsSure side → IfThere (λ (n : Session). AllByRecursion (IsUntouched side start touched) n.client.subs) session)
     → (IsSure side → IfThere (λ (n : Session). n.waits ≡ false → status_told.AllTold (status side.chain side.kept) n.client.subs) session)
-    → side.ahead ≡ [] → Tellings side start touched (replaced i session sessions)
+    → side.ahead ≡ [] → Tellings side start touched (client_replaced i session sessions)
 tellings_replaced side start touched sessions i session t untouched told still = record {
   untouched = λ sure. all_replaced _ sessions i session (t.untouched sure) (untouched sure);
   told = λ sure s. all_replaced _ sessions i session (t.told sure s) (told sure);

@@ -8,7 +8,7 @@ use Rattle.el_outside.specs.Files.{AllGrow}
 use Rattle.el_outside.specs.Trace.{Message, Closing}
 use Rattle.el_side.proofs.Deeds.{rose_still}
 use Rattle.el_chain.specs.Chains.{Chain}
-use Rattle.el_mempool.specs.Standing.{StandsFor}
+use Rattle.el_mempool.specs.Standing.{KeptStandFor}
 use Rattle.el_model.specs.LedgerCalls.{Asked, Moved}
 use Rattle.el_model.proofs.LedgerMoves.{LeavesOwn, asked_moved}
 use Rattle.el_replies.specs.Spending.{AskedGhosts}
@@ -25,7 +25,7 @@ use Rattle.el_world.specs.Run as run
 use Rattle.el_world.specs.Run.{OneTurn}
 use Rattle.el_core.specs.State.{State, ClientState, IsSession, IsUntouched, SessionsAre, NoneWaits, AllVoid, Stands, lent}
 use Rattle.el_core.specs.Turn.{TookTurn, GoesTo}
-use Rattle.el_core.specs.within.Clients.{TellTurn, tells, fails, starves, unsure, TellsAt, IsToTell, IsFirstWaiting, told_client, replaced}
+use Rattle.el_core.specs.within.Clients.{TellTurn, tells, fails, starves, unsure, TellsAt, IsToTell, IsFirstWaiting, told_client, client_replaced}
 use Rattle.el_core.proofs.Losing.{lost_of, did_of}
 use Rattle.el_core.proofs.Peers.{at_replaced}
 use Rattle.el_core.proofs.Places.{Both, IfThere, same_some, no_some, zip_at, zip_replaced, all_at, all_map, all_replaced, rising_replaced, one_mapped, one_filtered, one_there, none_found, found_none}
@@ -45,10 +45,10 @@ none_such : (u : Option ℕ) (P : Type 0) (ys : List Session) (i : ℕ) (x : Ses
 none_such None P ys i x last at w = refl
 none_such (Some p) P ys i x last at w = absurd (true≢false (sym w ∙ all_at _ ys i x (last p refl).1 at))
 
-void_gone : (ys : List Session) (i : ℕ) (session : Option Session) (q : ℕ) → find (is_peer q) ys ≡ None → IfThere (λ (n : Session). is_peer q n ≡ false) session → find (is_peer q) (replaced i session ys) ≡ None
+void_gone : (ys : List Session) (i : ℕ) (session : Option Session) (q : ℕ) → find (is_peer q) ys ≡ None → IfThere (λ (n : Session). is_peer q n ≡ false) session → find (is_peer q) (client_replaced i session ys) ≡ None
 void_gone ys i session q none_found_so other = none_found q _ (all_replaced (λ (y : Session). is_peer q y ≡ false) ys i session (found_none q ys none_found_so) other)
 
-void_replaced : (ys : List Session) (i : ℕ) (x : Session) (session : Option Session) (left : List Event) → slice_get ys i ≡ Some x → IfThere (λ (n : Session). n.peer ≡ x.peer) session → AllVoid ys left → AllVoid (replaced i session ys) left
+void_replaced : (ys : List Session) (i : ℕ) (x : Session) (session : Option Session) (left : List Event) → slice_get ys i ≡ Some x → IfThere (λ (n : Session). n.peer ≡ x.peer) session → AllVoid ys left → AllVoid (client_replaced i session ys) left
 void_replaced ys i x session left at same all =
     all_map _ _ left (λ e v. (v.0, v.1, void_gone ys i session v.0 v.2 (by session v.0 same (all_at (λ (y : Session). is_peer v.0 y ≡ false) ys i x (found_none v.0 ys v.2) at)))) all
   where
@@ -99,7 +99,7 @@ to_tell stands old world left i c stood still at =
     let start_is = stood.set.still still in
     record {
       stood = stood.chain;
-      set = λ sure. subst (λ (k : Chain). StandsFor old.holdings.pool.entries k world.side.kept) start_is (stood.set.stood sure);
+      set = λ sure. subst (λ (k : Chain). KeptStandFor old.holdings.pool.entries k world.side.kept) start_is (stood.set.stood sure);
       others = λ sure. rw z.2.kept (others_of world.side stood.start old.touched z.0.client.subs start_is (all_at _ world.sessions i z.0 (stood.tellings.untouched sure) z.1));
     }
 
@@ -117,10 +117,10 @@ module _ {G A Y : Type 0} (of : AskedGhosts G A Y) where
   told_by : (old new : State G) (files : A) (y : Y) (world : World) (left : List Event) (o : Outs) (i : ℕ) (r : BesideTelling old new files world left i) (c : ClientState) (x : Session)
       (now : Option ClientState) (session : Option Session) (losses : List Deed)
       → SessionsAre old.clients None None world.sessions r.stood.said → old.speaker ≡ None → old.surplus ≡ None → slice_get world.sessions i ≡ Some x
-      → new.clients ≡ replaced i now old.clients → Both (IsSession None r.stood.said) now session → IfThere (λ (n : Session). n.peer ≡ x.peer) session
+      → new.clients ≡ client_replaced i now old.clients → Both (IsSession None r.stood.said) now session → IfThere (λ (n : Session). n.peer ≡ x.peer) session
       → (IsSure world.side → IfThere (λ (n : Session). status_told.AllTold (status world.side.chain world.side.kept) n.client.subs) session)
-      → OneTurn of.beneath.files world [] o losses (record world { sessions = replaced i session world.sessions })
-      → AllByRecursion (GoesTo (record world { sessions = replaced i session world.sessions }) None o.closing) o.messages → RoseBy (of.beneath.ledger.faults old.ledger) (of.beneath.ledger.faults new.ledger) (failures deed.disk losses)
+      → OneTurn of.beneath.files world [] o losses (record world { sessions = client_replaced i session world.sessions })
+      → AllByRecursion (GoesTo (record world { sessions = client_replaced i session world.sessions }) None o.closing) o.messages → RoseBy (of.beneath.ledger.faults old.ledger) (of.beneath.ledger.faults new.ledger) (failures deed.disk losses)
       → failures deed.link losses ≡ 0 → failures deed.relay losses ≡ 0 → failures deed.archive losses ≡ 0 → offers losses ≡ []
       → TookTurn of (lent old files y) (lent new files y) world left o
   told_by old new files y world left o i r c x now session losses are no_speaker no_surplus at clients both same statuses turn sends rose no_link no_relay no_files no_offers =
@@ -130,7 +130,7 @@ module _ {G A Y : Type 0} (of : AskedGhosts G A Y) where
       let desk_is : new.desk ≡ old.desk = ap (λ (s : State G). s.desk) r.same in
       let start_is = st.set.still r.still in
       let void = void_replaced world.sessions i x session st.said at same are.leaves_left in
-      let now_are : SessionsAre (replaced i now old.clients) None None (replaced i session world.sessions) st.said = record {
+      let now_are : SessionsAre (client_replaced i now old.clients) None None (client_replaced i session world.sessions) st.said = record {
         each = zip_replaced (IsSession None st.said) (IsSession None st.said) old.clients world.sessions i x now session are.each are.rising at (λ d y k differ. k) both;
         rising = rising_replaced world.sessions i x session are.rising at same;
         leaves_left = void;
@@ -139,7 +139,7 @@ module _ {G A Y : Type 0} (of : AskedGhosts G A Y) where
         done = [];
         rest = left;
         losses = losses;
-        next = record world { sessions = replaced i session world.sessions };
+        next = record world { sessions = client_replaced i session world.sessions };
         whole = refl;
         turn = turn;
         stood = record {
@@ -180,42 +180,42 @@ module _ {G A Y : Type 0} (of : AskedGhosts G A Y) where
   -- it is told, or closed
   tell_one : (old new : State G) (files : A) (y : Y) (world : World) (left : List Event) (o : Outs) (i : ℕ) (r : BesideTelling old new files world left i) (c : ClientState) (now : Option ClientState) (x : Session)
       → IsSession None r.stood.said c x → SessionsAre old.clients None None world.sessions r.stood.said → slice_get world.sessions i ≡ Some x → old.speaker ≡ None → old.surplus ≡ None
-      → next_told world ≡ Some x → new.clients ≡ replaced i now old.clients → TellTurn world.side old.before (λ n. RoseBy (of.beneath.ledger.faults old.ledger) (of.beneath.ledger.faults new.ledger) n) c o now
+      → next_told world ≡ Some x → new.clients ≡ client_replaced i now old.clients → TellTurn world.side old.before (λ n. RoseBy (of.beneath.ledger.faults old.ledger) (of.beneath.ledger.faults new.ledger) n) c o now
       → TookTurn of (lent old files y) (lent new files y) world left o
   tell_one old new files y world left o i r c now x is are x_at no_speaker no_surplus next_is clients (tells sure outs_is now_is rose) =
       let mapped = one_mapped x.peer (λ (y : Session). told world x) world.sessions i x are.rising x_at refl in
-      let there = one_there x.peer (replaced i (Some (told world x)) world.sessions) i (told world x) (at_replaced world.sessions i x (told world x) x_at) refl in
+      let there = one_there x.peer (client_replaced i (Some (told world x)) world.sessions) i (told world x) (at_replaced world.sessions i x (told world x) x_at) refl in
       let o_is : o ≡ outs_of_telling world x = outs_is ∙ rw (is.peer, is.kept, r.stood.before sure) refl in
       told_by old new files y world left o i r c x (Some (told_client world.side c)) (Some (told world x)) [] are no_speaker no_surplus x_at
-      (clients ∙ ap (λ (n : Option ClientState). replaced i n old.clients) now_is) (told_session world r.stood.said c x is) refl (λ s. marked_told (status world.side.chain world.side.kept) x.client.subs)
+      (clients ∙ ap (λ (n : Option ClientState). client_replaced i n old.clients) now_is) (told_session world r.stood.said c x is) refl (λ s. marked_told (status world.side.chain world.side.kept) x.client.subs)
       (run.notifies r.still refl (model.tells x next_is o_is (ap (λ (ss : List Session). record world { sessions = ss }) (sym mapped)) refl))
-      (rw o_is (goes_to_all (record world { sessions = replaced i (Some (told world x)) world.sessions }) None x.peer _ there)) rose refl refl refl refl
+      (rw o_is (goes_to_all (record world { sessions = client_replaced i (Some (told world x)) world.sessions }) None x.peer _ there)) rose refl refl refl refl
   tell_one old new files y world left o i r c now x is are x_at no_speaker no_surplus next_is clients (fails outs_is now_is rose) =
       let filtered = one_filtered x.peer world.sessions i x are.rising x_at refl in
       told_by old new files y world left o i r c x None None (deed.lost deed.disk ∷ []) are no_speaker no_surplus x_at
-      (clients ∙ ap (λ (n : Option ClientState). replaced i n old.clients) now_is) tt tt (λ s. tt)
+      (clients ∙ ap (λ (n : Option ClientState). client_replaced i n old.clients) now_is) tt tt (λ s. tt)
       (run.notifies r.still refl (model.fails x next_is (outs_is ∙ ap closes_disk is.peer) (ap (λ (ss : List Session). record world { sessions = ss }) (sym filtered)) refl))
       (rw outs_is tt) rose refl refl refl refl
   tell_one old new files y world left o i r c now x is are x_at no_speaker no_surplus next_is clients (starves outs_is now_is rose) =
       let filtered = one_filtered x.peer world.sessions i x are.rising x_at refl in
       told_by old new files y world left o i r c x None None [] are no_speaker no_surplus x_at
-      (clients ∙ ap (λ (n : Option ClientState). replaced i n old.clients) now_is) tt tt (λ s. tt)
+      (clients ∙ ap (λ (n : Option ClientState). client_replaced i n old.clients) now_is) tt tt (λ s. tt)
       (run.departs x.peer (one_there x.peer world.sessions i x x_at refl) refl (outs_is ∙ ap closes_memory is.peer) (ap (λ (ss : List Session). record world { sessions = ss }) (sym filtered)) refl)
       (rw outs_is tt) rose refl refl refl refl
   tell_one old new files y world left o i r c now x is are x_at no_speaker no_surplus next_is clients (unsure un some rose) =
       let z : Session = record x { client = some.now; waits = false } in
       let mapped = one_mapped x.peer (λ (every : Session). z) world.sessions i x are.rising x_at refl in
-      let there = one_there x.peer (replaced i (Some z) world.sessions) i z (at_replaced world.sessions i x z x_at) refl in
+      let there = one_there x.peer (client_replaced i (Some z) world.sessions) i z (at_replaced world.sessions i x z x_at) refl in
       let o_is : o ≡ texts_to x.peer some.texts = some.outs_are ∙ ap (λ (q : ℕ). texts_to q some.texts) is.peer in
       let stays = subst (λ (k : known.Session). StaysSubscribed k some.now) is.kept some.stays in
       told_by old new files y world left o i r c x (Some (record c { session = some.now; waits = false })) (Some z) [] are no_speaker no_surplus x_at
-      (clients ∙ ap (λ (n : Option ClientState). replaced i n old.clients) some.left_is) (some_session r.stood.said c x some.now is) refl (λ sure. absurd (not_both world.side sure un))
+      (clients ∙ ap (λ (n : Option ClientState). client_replaced i n old.clients) some.left_is) (some_session r.stood.said c x some.now is) refl (λ sure. absurd (not_both world.side sure un))
       (run.notifies r.still refl (model.unsure un x some.texts some.now next_is some.told stays o_is (ap (λ (ss : List Session). record world { sessions = ss }) (sym mapped)) refl))
-      (rw o_is (goes_to_all (record world { sessions = replaced i (Some z) world.sessions }) None x.peer some.texts there)) rose refl refl refl refl
+      (rw o_is (goes_to_all (record world { sessions = client_replaced i (Some z) world.sessions }) None x.peer some.texts there)) rose refl refl refl refl
 
   -- the telling of the first client that waits
   tell_step : (old new : State G) (files : A) (y : Y) (world : World) (left : List Event) (o : Outs) (i : ℕ) (r : BesideTelling old new files world left i) (c : ClientState) (now : Option ClientState)
-      → slice_get old.clients i ≡ Some c → c.waits ≡ true → new.clients ≡ replaced i now old.clients → TellTurn world.side old.before (λ n. RoseBy (of.beneath.ledger.faults old.ledger) (of.beneath.ledger.faults new.ledger) n) c o now
+      → slice_get old.clients i ≡ Some c → c.waits ≡ true → new.clients ≡ client_replaced i now old.clients → TellTurn world.side old.before (λ n. RoseBy (of.beneath.ledger.faults old.ledger) (of.beneath.ledger.faults new.ledger) n) c o now
       → TookTurn of (lent old files y) (lent new files y) world left o
   tell_step old new files y world left o i r c now at w clients turn =
       let z = zip_at (IsSession old.speaker r.stood.said) old.clients world.sessions i c r.stood.sessions.each at in

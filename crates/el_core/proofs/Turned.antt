@@ -11,14 +11,14 @@ use Rattle.el_chain.specs.Chains.{Chain}
 use Rattle.el_model.specs.LedgerCalls.{Asked}
 use Rattle.el_model.specs.Queries.{tip_of}
 use Rattle.el_lines.specs.Lines.{LineEvent}
-use Rattle.el_mempool.specs.Standing.{StandsFor}
+use Rattle.el_mempool.specs.Standing.{KeptStandFor}
 use Rattle.el_side.specs.NodeSteps.{IsAt, IsSettled, Leads}
 use Rattle.el_side.specs.Side.{Side, IsSure, Moving, OrdersLine}
 use Rattle.el_world.specs.World.{World, Session, Event, orders, IsStill, AllTold, begun, is_peer}
 use Rattle.el_world.specs.Run as run
 use Rattle.el_side.specs.UnderWay.{IsFirstMove}
 use Rattle.el_model.proofs.LedgerMoves.{LeavesOwn, asked_moved}
-use Rattle.el_sync.specs.Steps.{Fails, IsFrom, StopsAt}
+use Rattle.el_sync.specs.Steps.{StepFails, IsFrom, StopsAt}
 use Rattle.el_model.specs.declared.fault.QueryFault.{QueryFault}
 use Rattle.el_model.specs.declared.fault.QueryFault.TheVariants as fault
 use Rattle.el_side.specs.Caching.{CachesStand, CachesStay}
@@ -28,7 +28,7 @@ use Rattle.el_side.specs.Beneath.{Ghosts, beneath, failed_beneath}
 use Rattle.el_core.specs.State.{State, ClientState, HasGivenAll, IsSession, SessionsAre, AllVoid, Stands, waiting, serving, lent, asking_of}
 use Rattle.el_core.specs.Turn.{TookTurn, TurnFailed, IsDone, outs_of}
 use Rattle.el_core.specs.within.Answering.{Answered}
-use Rattle.el_core.specs.within.Clients.{Gives, NextIsLine, PeersTurn, passing, all_wait, begun_at}
+use Rattle.el_core.specs.within.Clients.{GivesEvent, NextIsLine, PeersTurn, passing, all_wait, begun_at}
 use Rattle.el_core.specs.within.Touching.{CoversAll}
 use Rattle.el_core.specs.declared.out.Outs as code
 use Rattle.el_core.proofs.Causes.{nodes_turn}
@@ -132,7 +132,7 @@ module _ {G A : Type 0} (of : Ghosts G A) where
 
   -- a line of the node: `read` is the state after the line was read
   pub node_turned : {Y : Type 0} (of_relay : relays.Ghosts Y) (y : Y) (old read new : State G) (before after : A) (world : World) (left : List Event) (o : code.Outs) (e : LineEvent) → ((k : G) (chain : Chain) → of.ledger.stands k chain → of.ledger.tip k ≡ tip_of chain) → Stands of.ledger.stands old world left
-      → (of.files.tells → AllGrow world.side.files (of.files.bytes before)) → read.ahead ≡ [] → waiting read.clients ≡ [] → read ≡ record old { node = read.node } → read.node.limit ≡ old.node.limit → Gives old.node e read.node
+      → (of.files.tells → AllGrow world.side.files (of.files.bytes before)) → read.ahead ≡ [] → waiting read.clients ≡ [] → read ≡ record old { node = read.node } → read.node.limit ≡ old.node.limit → GivesEvent old.node e read.node
       → new ≡ record read { ledger = new.ledger; holdings = new.holdings; caches = new.caches; ahead = new.ahead; clients = new.clients; before = new.before; touched = new.touched }
       → new.holdings.magic ≡ read.holdings.magic
       → (new.clients ≡ all_wait read.clients) × (new.before ≡ of.ledger.tip read.ledger)
@@ -177,7 +177,7 @@ module _ {G A : Type 0} (of : Ghosts G A) where
       → IsSettled of (beneath old.ledger files) old.holdings old.caches (record world.side { files = known_files })
   settled old files world left known_files stood told still = record {
     stood = stood.chain;
-    set = λ sure. subst (λ (c : Chain). StandsFor old.holdings.pool.entries c world.side.kept) (stood.set.still (sym stood.ahead ∙ still)) (stood.set.stood sure);
+    set = λ sure. subst (λ (c : Chain). KeptStandFor old.holdings.pool.entries c world.side.kept) (stood.set.still (sym stood.ahead ∙ still)) (stood.set.stood sure);
     fees = stood.set.fees;
     computed = λ sure. subst (λ (c : Chain). CachesStand old.caches c world.side.chain) (stood.set.still (sym stood.ahead ∙ still)) (stood.set.computed sure);
     found = stood.found;
@@ -249,9 +249,9 @@ unread_failed of old new files world left own live same stood line quiet_all =
 -- a line of the node in which the server stops: `read` is the state after the line was read
 pub node_failed : {G A : Type 0} (of : Ghosts G A) (old read : State G) (new : G) (before after : A) (world : World) (left : List Event) (said : LineEvent) (e : QueryFault)
     → Stands of.ledger.stands old world left → (of.files.tells → AllGrow world.side.files (of.files.bytes before)) → read.ahead ≡ [] → waiting read.clients ≡ [] → read ≡ record old { node = read.node } → read.node.limit ≡ old.node.limit
-    → Gives old.node said read.node → (e ≡ fault.Memory → of.ledger.is_live new)
+    → GivesEvent old.node said read.node → (e ≡ fault.Memory → of.ledger.is_live new)
     → ((side : Side) (start : Chain) → IsSure side → IsAt of (beneath read.ledger before) read.holdings read.caches side start → IsFrom read.holdings side → StopsAt of (beneath read.ledger before) (beneath new after) side.chain false (IsFirstMove side said) e)
-    → ((side : Side) (start : Chain) → side.sure ≡ false → IsAt of (beneath read.ledger before) read.holdings read.caches side start → IsFrom read.holdings side → Fails of (beneath read.ledger before) (beneath new after) side.chain false e)
+    → ((side : Side) (start : Chain) → side.sure ≡ false → IsAt of (beneath read.ledger before) read.holdings read.caches side start → IsFrom read.holdings side → StepFails of (beneath read.ledger before) (beneath new after) side.chain false e)
     → TurnFailed of (beneath old.ledger before) (beneath new after) world left e
 node_failed {G} of old read new before after world left said e stood told still quiet_all same limit gives live stopped lost =
     let ledger_is : read.ledger ≡ old.ledger = ap (λ (s : State G). s.ledger) same in
@@ -260,6 +260,6 @@ node_failed {G} of old read new before after world left said e stood told still 
     let n = next_order old.node read.node world.heard stood.ordered said stood.node limit gives in
     let at : IsAt of (beneath read.ledger before) read.holdings read.caches world.side stood.start = record { stood = rw ledger_is stood.chain; set = rw (ap (λ (s : State G). s.holdings) same, ap (λ (s : State G). s.caches) same) stood.set; told = told } in
     let r : IsSure world.side → StopsAt of (beneath old.ledger before) (beneath new after) world.side.chain false (IsFirstMove world.side said) e = λ sure. rw ledger_is at (stopped world.side stood.start sure at from) in
-    let f : world.side.sure ≡ false → Fails of (beneath old.ledger before) (beneath new after) world.side.chain false e = λ un. rw ledger_is at (lost world.side stood.start un at from) in
+    let f : world.side.sure ≡ false → StepFails of (beneath old.ledger before) (beneath new after) world.side.chain false e = λ un. rw ledger_is at (lost world.side stood.start un at from) in
     line_failed of old.ledger new before after world left (n.rest ++ stood.said) e said from.still all_told
     (stood.left_is ∙ ap (λ (es : List Event). es ++ stood.said) n.first_is) live r f

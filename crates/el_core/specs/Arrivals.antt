@@ -64,6 +64,6 @@ IsAbove last (arrival.Opened p) = last < p
 IsAbove last other = Unit {0}
 
 -- who comes has a number not above this one
-abbrev pub IsUpTo : ℕ → Arrival → Type 0
-IsUpTo now (arrival.Opened p) = p ≤ now
-IsUpTo now other = Unit {0}
+abbrev pub ComesUpTo : ℕ → Arrival → Type 0
+ComesUpTo now (arrival.Opened p) = p ≤ now
+ComesUpTo now other = Unit {0}

@@ -19,7 +19,7 @@ use Rattle.el_side.specs.Beneath.{Beneath, beneath}
 use Rattle.el_side.specs.NodeSteps.{SetStands}
 use Rattle.el_side.specs.Side.{Side, IsSure}
 use Rattle.el_world.specs.World.{World, Session, Event, says, orders, joins, leaves, is_peer, line_limit, client_limit}
-use Rattle.el_lines.specs.LineStates.{LineState, IsAt, held}
+use Rattle.el_lines.specs.LineStates.{LineState, WasFed, held_bytes}
 
 -- What is kept of a client: its bytes, as a line buffer keeps them that was fed all of them; whether bytes of
 -- it were lost where memory ran out; what is kept of it for its requests; and whether it is still to be told
@@ -78,7 +78,7 @@ beneath_of now = beneath now.server.ledger now.files
 
 -- all lines of the bytes that were fed, which are cut at each byte 10, were given
 abbrev pub HasGivenAll : LineState → Type 0
-HasGivenAll b = (fed : List ℕ) (given : ℕ) → IsAt b fed given → given ≡ length (lines b.limit fed)
+HasGivenAll b = (fed : List ℕ) (given : ℕ) → WasFed b fed given → given ≡ length (lines b.limit fed)
 
 -- nothing of the client is left to do
 pub record IsHeardOut (c : ClientState) : Type 0 where
@@ -112,7 +112,7 @@ pub record IsIdle {G : Type 0} (s : State G) : Type 0 where
 -- How many turns a client may still take at most: a line takes at least one byte, and the closing comes last.
 abbrev pub work_of_client : Option ClientState → ℕ
 work_of_client None = 0
-work_of_client (Some c) = held c.buffer + 1
+work_of_client (Some c) = held_bytes c.buffer + 1
 
 -- how many turns all of these may still take at most
 abbrev pub work_of_clients : List ClientState → ℕ
@@ -141,7 +141,7 @@ work_of_node bytes found ahead = bytes * (found + bytes + 1) + ahead
 -- at most how many turns are left: after each turn of the node each client is told once
 abbrev pub work : {G : Type 0} → State G → ℕ
 work s =
-    work_of_node (held s.node) (length s.holdings.tree) (length s.ahead) * (length s.clients + 1)
+    work_of_node (held_bytes s.node) (length s.holdings.tree) (length s.ahead) * (length s.clients + 1)
     + length (waiting s.clients)
     + work_of_peers s
 
@@ -160,7 +160,7 @@ AllVoid sessions left =
 -- The client's bytes, all of which it sent since it came, leave these events.
 pub data HearsLeft (c : ClientState) (heard : List ℕ) (left : List Event) : Type 0 where
   -- the lines that weren't met yet
-  in_order : (given : ℕ) → c.lost ≡ false → IsAt c.buffer heard given
+  in_order : (given : ℕ) → c.lost ≡ false → WasFed c.buffer heard given
       → given ≤ length (lines line_limit heard)
       → left ≡ map (says c.peer) (drop given (lines line_limit heard))
       → HearsLeft c heard left
@@ -170,7 +170,7 @@ pub data HearsLeft (c : ClientState) (heard : List ℕ) (left : List Event) : Ty
 -- All lines of the client were met.
 pub record IsMet (c : ClientState) (heard : List ℕ) : Type 0 where
   pub kept : c.lost ≡ false
-  pub at : IsAt c.buffer heard (length (lines line_limit heard))
+  pub at : WasFed c.buffer heard (length (lines line_limit heard))
 
 -- The session is the client's. Of the client that speaks these events are left, and of each other one all
 -- lines were met.
@@ -188,19 +188,19 @@ Rising [] = ⊤
 Rising (x ∷ xs) = AllByRecursion (λ (y : Session). x.peer < y.peer) xs × Rising xs
 
 -- Which events are left: those of the client that speaks, or that a client too many joins.
-abbrev pub Leaves : Option ℕ → Option ℕ → List Session → List Event → Type 0
-Leaves None None sessions left = AllVoid sessions left
-Leaves None (Some p) sessions left =
+abbrev pub AreEventsLeft : Option ℕ → Option ℕ → List Session → List Event → Type 0
+AreEventsLeft None None sessions left = AllVoid sessions left
+AreEventsLeft None (Some p) sessions left =
     (left ≡ joins p ∷ []) × (nat_lt (length sessions) client_limit ≡ false)
-Leaves (Some p) None sessions left = list_any (is_peer p) sessions ≡ true
-Leaves (Some p) (Some q) sessions left = ⊥
+AreEventsLeft (Some p) None sessions left = list_any (is_peer p) sessions ≡ true
+AreEventsLeft (Some p) (Some q) sessions left = ⊥
 
 -- The sessions are the clients', place by place, and these events are left.
 pub record SessionsAre (clients : List ClientState) (speaker surplus : Option ℕ) (sessions : List Session)
     (left : List Event) : Type 0 where
   pub each : AllZip (IsSession speaker left) clients sessions
   pub rising : Rising sessions
-  pub leaves_left : Leaves speaker surplus sessions left
+  pub leaves_left : AreEventsLeft speaker surplus sessions left
 
 -- nobody is still to be told of the node's last line
 abbrev pub NoneWaits : List Session → Type 0
@@ -228,7 +228,7 @@ pub record Tellings (side : Side) (start : Chain) (touched : List Hash32) (sessi
 pub record NodeLeaves (node : LineState) (heard : List ℕ) (left : List Event) : Type 0 where
   pub limit : node.limit ≡ node_limit
   pub given : ℕ
-  pub at : IsAt node heard given
+  pub at : WasFed node heard given
   pub few : given ≤ length (lines node_limit heard)
   pub left_is : left ≡ map orders (drop given (lines node_limit heard))
 

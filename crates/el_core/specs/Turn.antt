@@ -17,7 +17,7 @@ use Rattle.el_subs.specs.Told.{status}
 use Rattle.el_world.specs.Flights.{IsMoveOf}
 use Rattle.el_world.specs.World as model
 use Rattle.el_world.specs.World.{World, Session, Event, says, is_client, IsStill, AllTold, next_told, closes_long}
-use Rattle.el_world.specs.Run.{Turns, OneTurn, Closes, Stop, by_disk, by_memory, Stops, disk_failed, sift_failed, no_memory, untold, unsent}
+use Rattle.el_world.specs.Run.{Turns, OneTurn, IsClosingOf, Stop, by_disk, by_memory, Stops, disk_failed, sift_failed, no_memory, untold, unsent}
 use Rattle.el_core.specs.State.{State, ClientState, Lent, Stands, asking_of}
 use Rattle.el_model.specs.declared.fault.QueryFault.{QueryFault}
 use Rattle.el_model.specs.declared.fault.QueryFault.TheVariants as fault
@@ -57,7 +57,7 @@ ClosesLong p result = (o : Outs) × (result ≡ Ok (Some o)) × (outs_of o ≡ c
 -- a message goes to the node, or to a client, which may be closed then, that no client too many waits beside
 abbrev pub GoesTo : World → Option ℕ → Option Closing → Message → Type 0
 GoesTo next surplus closing m =
-    (m.peer ≡ 0) ⊎ (((is_client m.peer next ≡ true) ⊎ Closes closing m.peer) × (surplus ≡ None))
+    (m.peer ≡ 0) ⊎ (((is_client m.peer next ≡ true) ⊎ IsClosingOf closing m.peer) × (surplus ≡ None))
 
 -- The server made one turn, and stands for what the turn left.
 pub record TookTurn {G A Y : Type 0} (of : AskedGhosts G A Y) (was now : Lent G A Y) (world : World)
@@ -88,9 +88,9 @@ pub record IsDone {G A : Type 0} (stands : G → Chain → Type 0) (of_files : a
   pub stood : Stands stands s world []
 
 -- the stop that a fault of a turn is
-abbrev pub stop_of : QueryFault → Stop
-stop_of fault.DiskFailed = by_disk
-stop_of fault.Memory = by_memory
+abbrev pub turn_stop : QueryFault → Stop
+turn_stop fault.DiskFailed = by_disk
+turn_stop fault.Memory = by_memory
 
 -- it stops in the turn itself, and not in sending what that gave
 abbrev pub IsWithin : {A : Type 0} {of_files : archive.Ghosts A} {world : World} {left : List Event}
@@ -120,7 +120,7 @@ KeepsChain (unsent done rest outs failed after front back m lost last next whole
 pub record TurnFailed {G A : Type 0} (of : Ghosts G A) (was now : Beneath G A) (world : World)
     (left : List Event) (e : QueryFault) : Type 0 where
   pub losses : List Deed
-  pub stops : Stops of.files world left (stop_of e) [] [] losses
+  pub stops : Stops of.files world left (turn_stop e) [] [] losses
   pub within : IsWithin stops
   pub rose : Lost of was now losses
   pub later : Bool

@@ -13,14 +13,14 @@ ghost use Rattle.el_replies.specs.Spending.{asked_ghosts, asking};
 ghost use Rattle.el_side.specs.Beneath.{beneath, ghosts};
 ghost use Rattle.el_side.specs.Side.{Side, IsSure};
 ghost use Rattle.el_world.specs.World.{StaysSubscribed, line_limit, new_client, outs_of_reply, reply_to};
-ghost use Rattle.el_lines.specs.LineStates.{as_listed, held};
+ghost use Rattle.el_lines.specs.LineStates.{as_listed, held_bytes};
 ghost use Rattle.el_sessions.specs.Watching.{Follows};
 ghost use Rattle.el_replies.specs.RowBounds.{LineReads, ReadsWithin};
 ghost use Rattle.el_core.specs.State.{HasGivenAll, HasNoWork, IsHeardOut, work_of_client};
 ghost use Rattle.el_core.specs.Turn.{messages_of, outs_of};
 ghost use Rattle.el_side.specs.Caching.{CachesStand, CachesStay};
 ghost use Rattle.el_side.specs.NodeSteps.{IsSettled};
-ghost use Rattle.el_core.specs.within.Clients.{IsFresh, Keeps, Gives, NextIsLine, LineAnswered, Answers, ClientTurn, IsToTell, passing, left_if, told_client};
+ghost use Rattle.el_core.specs.within.Clients.{IsNewClient, KeepsBytes, GivesEvent, NextIsLine, LineAnswered, AnswersClient, ClientTurn, IsToTell, passing, left_if, told_client};
 ghost use Rattle.el_core.specs.within.RowBounds.{ClientReads, EventReads};
 
 use crate::out::Outs;
@@ -75,7 +75,7 @@ fn fresh_session(alloc: Global) -> Session
 impl Client {
     /// A client that has sent nothing. Takes no memory.
     pub fn new(alloc: Global, peer: Peer) -> Client
-        ensures { IsFresh peer result }
+        ensures { IsNewClient peer result }
     {
         Client {
             peer,
@@ -172,7 +172,7 @@ impl Client {
 
     /// Keeps the bytes of an arrival, or that there was no memory for them.
     pub fn hear(&mut self, bytes: &[u8])
-        ensures { Keeps bytes.now self.old self.new }
+        ensures { KeepsBytes bytes.now self.old self.new }
     {
         match self.buffer.feed(bytes) {
             Ok(()) => self.lost = false,
@@ -183,12 +183,12 @@ impl Client {
     // The next event of its bytes.
     fn next_line(&mut self) -> Result<Option<LineEvent>, OutOfMemory>
         ensures met { IfOk result (λ found. IfSome found (λ e.
-            Gives self.old.buffer (as_listed e) self.new.buffer)) }
+            GivesEvent self.old.buffer (as_listed e) self.new.buffer)) }
         ensures none { IfOk result (λ found. IfNone found (HasGivenAll self.old.buffer)) }
         ensures unchanged { IfOk result (λ found. IfNone found (self.new ≡ self.old)) }
         ensures line { OnErr result (NextIsLine self.old.buffer) }
         ensures consumed { IfOk result (λ found. IfSome found (λ e.
-            held self.new.buffer < held self.old.buffer)) }
+            held_bytes self.new.buffer < held_bytes self.old.buffer)) }
         ensures limit { self.new.buffer.limit ≡ self.old.buffer.limit }
         ensures same { self.new ≡ record self.old { buffer = self.new.buffer } }
     {
@@ -346,7 +346,7 @@ fn answer<G: Ledger, A: Archive, Y: Relay>(
     ensures answers { let of = ghosts ⟦<G as Ledger>⟧ ⟦<A as Archive>⟧ in
         let was = beneath ledger.old archive.old in (side : Side)
         → IsSettled of was holdings.now caches.old side
-        → Answers A.tells side (passing (asked_ghosts of ⟦<Y as Relay>⟧)
+        → AnswersClient A.tells side (passing (asked_ghosts of ⟦<Y as Relay>⟧)
         (asking ledger.old archive.old relay.old desk.old) (asking ledger.new archive.new relay.new desk.new))
         client.old.peer met client.old.session client.new.session (outs_of result.0) result.1 }
     ensures quiet { Asked ⟦<G as Ledger>⟧ ledger.old ledger.new }

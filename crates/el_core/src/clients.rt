@@ -12,11 +12,11 @@ ghost use Rattle.el_core.specs.Arrivals.{kept_clients};
 ghost use Rattle.el_side.specs.Caching.{CachesStand, CachesStay};
 ghost use Rattle.el_side.specs.NodeSteps.{IsSettled};
 ghost use Rattle.el_core.specs.Turn.{outs_of};
-ghost use Rattle.el_core.specs.within.Clients.{IsPlace, IsFirstWaiting, HearsAt, ClientTurn, TurnsAt, passing, IsToTell, TellTurn, TellsAt, all_wait, replaced};
+ghost use Rattle.el_core.specs.within.Clients.{IsClientPlace, IsFirstWaiting, HearsAt, ClientTurn, TurnsAt, passing, IsToTell, TellTurn, TellsAt, all_wait, client_replaced};
 ghost use Rattle.el_core.specs.State.{ClientState};
 ghost use Rattle.el_core.specs.within.RowBounds.{ClientReads};
 ghost use Rattle.el_core.specs.within.Touching.{is_held};
-ghost use Rattle.el_core.specs.within.Watching.{Counts};
+ghost use Rattle.el_core.specs.within.Watching.{CountWatchers};
 
 use crate::client::{Client, client_turn};
 use crate::out::Outs;
@@ -42,13 +42,13 @@ pub struct Clients {
 impl Model for Clients {
     ghost use Rattle.std.specs.Prelude.{List};
     ghost use Rattle.el_core.specs.State.{ClientState};
-    ghost use Rattle.el_core.specs.within.Watching.{Counts};
+    ghost use Rattle.el_core.specs.within.Watching.{CountWatchers};
 
     ghost Value = { List ClientState };
 
     ghost view = { λ c. c.list.items };
 
-    ghost invariant = { λ c. Counts c.watched c.list.items };
+    ghost invariant = { λ c. CountWatchers c.watched c.list.items };
 }
 
 // All are to be told of a line of the node.
@@ -63,9 +63,9 @@ fn await_all(list: &mut Vec<Client>)
 // Takes away the client at that place, and counts its subscriptions no more.
 fn take_out(list: &mut Vec<Client>, watched: &mut Watched, i: usize)
     requires inside { i < length list.old.items }
-    requires counts { Counts watched.old list.old.items }
-    ensures gone { list.new.items ≡ replaced i None list.old.items }
-    ensures counts { Counts watched.new list.new.items }
+    requires counts { CountWatchers watched.old list.old.items }
+    ensures gone { list.new.items ≡ client_replaced i None list.old.items }
+    ensures counts { CountWatchers watched.new list.new.items }
 {
     let mut subs = list.remove(i).into_subs();
     watched.uncount(&mut subs);
@@ -101,7 +101,7 @@ impl Clients {
 
     /// Where the client with that number stands.
     pub fn place_of(&self, p: Peer) -> Option<usize>
-        ensures place { IsPlace p self.now result }
+        ensures place { IsClientPlace p self.now result }
         ensures inside { IfSome result (λ i. i < length self.now) }
     {
         for (i, client) in self.list.iter().enumerate() {
@@ -142,7 +142,7 @@ impl Clients {
     // Takes away the client at that place.
     fn take_away(&mut self, i: usize)
         requires { i < length self.old }
-        ensures { self.new ≡ replaced i None self.old }
+        ensures { self.new ≡ client_replaced i None self.old }
     {
         take_out(&mut self.list, &mut self.watched, i);
     }
@@ -183,7 +183,8 @@ impl Clients {
             let was = beneath ledger.old archive.old in TurnsAt (λ c left. (side : Side)
             → IsSettled of was holdings.now caches.old side
             → ClientTurn A.tells side (passing (asked_ghosts of ⟦<Y as Relay>⟧)
-            (asking ledger.old archive.old relay.old desk.old) (asking ledger.new archive.new relay.new desk.new)) c result.0 left)
+            (asking ledger.old archive.old relay.old desk.old)
+            (asking ledger.new archive.new relay.new desk.new)) c result.0 left)
             i self.old result.0 result.1 self.new }
 
         ensures quiet { Asked ⟦<G as Ledger>⟧ ledger.old ledger.new }

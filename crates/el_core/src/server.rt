@@ -20,14 +20,14 @@ ghost use Rattle.el_side.specs.Plans.{plan_of};
 ghost use Rattle.el_world.specs.Run.{MayStarve};
 ghost use Rattle.el_side.specs.Side.{Side, IsSure, Moving, OrdersLine};
 ghost use Rattle.el_world.specs.World.{World, Event, joins, says, is_client, IsStill, AllTold, initial_world, without_client, reply_to};
-ghost use Rattle.el_lines.specs.LineStates.{as_listed, held};
-ghost use Rattle.el_sync.specs.Steps.{Fails, IsFrom, StopsAt};
+ghost use Rattle.el_lines.specs.LineStates.{as_listed, held_bytes};
+ghost use Rattle.el_sync.specs.Steps.{StepFails, IsFrom, StopsAt};
 ghost use Rattle.el_core.specs.State.{AreUpTo, IsIdle, Stands, HasGivenAll, asking_of, beneath_of, lent, serving, waiting, work, work_of_peers};
-ghost use Rattle.el_core.specs.Arrivals.{TookArrival, IsAbove, IsUpTo, with_all_bytes, gone_from};
+ghost use Rattle.el_core.specs.Arrivals.{TookArrival, IsAbove, ComesUpTo, with_all_bytes, gone_from};
 ghost use Rattle.el_core.specs.Turn.{TookTurn, TurnFailed, IsDone, HasLost, MeetsLine, WaitsToBeTold, ClosesLong, outs_of};
 ghost use Rattle.el_core.specs.within.Answering.{Answered, NodeKeeps};
 ghost use Rattle.el_core.specs.within.RowBounds.{SpeakerReads};
-ghost use Rattle.el_core.specs.within.Clients.{Hears, Opens, Gives, NextIsLine, IsFirstWaiting, SpeakerSteps, PeersTurn, passing, IsToTell, TellTurn, TellsAt, all_wait, begun_at};
+ghost use Rattle.el_core.specs.within.Clients.{Hears, Opens, GivesEvent, NextIsLine, IsFirstWaiting, SpeakerSteps, PeersTurn, passing, IsToTell, TellTurn, TellsAt, all_wait, begun_at};
 
 use crate::client::{Client, closing, rooms_for_one, sending_in};
 use crate::clients::Clients;
@@ -78,7 +78,7 @@ impl<G: Ledger> Model for Server<G> {
     ghost use Rattle.el_chain.specs.Records.{IsNode};
     ghost use Rattle.el_lines.specs.NodeAnswers.{node_limit};
     ghost use Rattle.el_core.specs.State.{State};
-    ghost use Rattle.el_sync.specs.Steps.{named};
+    ghost use Rattle.el_sync.specs.Steps.{previous_hash};
 
     ghost Value = { State G };
 
@@ -96,7 +96,8 @@ impl<G: Ledger> Model for Server<G> {
       touched = s.touched;
     } };
 
-    ghost invariant = { λ s. AllByRecursion IsNode s.ahead × AreLinked (named (G.tip s.ledger)) s.ahead
+    ghost invariant = { λ s. AllByRecursion IsNode s.ahead
+        × AreLinked (previous_hash (G.tip s.ledger)) s.ahead
         × (s.node.state.limit ≡ node_limit) };
 }
 
@@ -174,7 +175,7 @@ impl<G: Ledger> Server<G> {
 
         ensures refused { OnErr result (self.new ≡ self.old) }
         ensures ledger { self.new.ledger ≡ self.old.ledger }
-        ensures numbers { (last now : ℕ) → last ≤ now → AreUpTo last self.old.clients → IsUpTo now arrival
+        ensures numbers { (last now : ℕ) → last ≤ now → AreUpTo last self.old.clients → ComesUpTo now arrival
             → OnOk result (AreUpTo now self.new.clients) }
 
         ensures memory { OnErr result (MayStarve (with_all_bytes arrival bytes.now)) }
@@ -256,7 +257,8 @@ impl<G: Ledger> Server<G> {
         requires some { self.old.ahead ≢ [] }
         ensures moving { let of = ghosts ⟦<G as Ledger>⟧ ⟦<A as Archive>⟧ in
             let was = serving self.old archive.old in (side : Side) (start : Chain)
-            → IsAt of (beneath_of was) self.old.holdings self.old.caches side start → side.found ≡ self.old.holdings.tree
+            → IsAt of (beneath_of was) self.old.holdings self.old.caches side start
+            → side.found ≡ self.old.holdings.tree
             → IfOk result (Answered of (Moving ⟦<A as Archive>⟧ side 0 self.old.ahead) was
             (serving self.new archive.new) side start) }
         ensures sends { IfOk result (λ o. (text : List ℕ) × (outs_of o ≡ reply_to 0 text)) }
@@ -268,7 +270,7 @@ impl<G: Ledger> Server<G> {
         ensures lost { let of = ghosts ⟦<G as Ledger>⟧ ⟦<A as Archive>⟧ in
             let was = beneath self.old.ledger archive.old in (side : Side) (start : Chain)
             → side.sure ≡ false → IsAt of was self.old.holdings self.old.caches side start → IfErr result (
-            Fails of was (beneath self.new.ledger archive.new) side.chain true) }
+            StepFails of was (beneath self.new.ledger archive.new) side.chain true) }
         ensures some { self.old.ahead ≢ [] }
         ensures fewer { OnOk result (length self.new.ahead < length self.old.ahead) }
         ensures same { self.new ≡ record self.old {
@@ -339,14 +341,16 @@ impl<G: Ledger> Server<G> {
         ensures sends { IfOk result (λ o. (text : List ℕ) × (outs_of o ≡ reply_to 0 text)) }
         ensures stopped { let of = ghosts ⟦<G as Ledger>⟧ ⟦<A as Archive>⟧ in
             let was = beneath self.old.ledger archive.old in (side : Side) (start : Chain)
-            → IsSure side → IsAt of was self.old.holdings self.old.caches side start → IsFrom self.old.holdings side
+            → IsSure side → IsAt of was self.old.holdings self.old.caches side start
+            → IsFrom self.old.holdings side
             → IfErr result (
             StopsAt of was (beneath self.new.ledger archive.new) side.chain false
             (IsFirstMove side (as_listed met))) }
         ensures lost { let of = ghosts ⟦<G as Ledger>⟧ ⟦<A as Archive>⟧ in
             let was = beneath self.old.ledger archive.old in (side : Side) (start : Chain)
-            → side.sure ≡ false → IsAt of was self.old.holdings self.old.caches side start → IsFrom self.old.holdings side
-            → IfErr result (Fails of was (beneath self.new.ledger archive.new) side.chain false) }
+            → side.sure ≡ false → IsAt of was self.old.holdings self.old.caches side start
+            → IsFrom self.old.holdings side
+            → IfErr result (StepFails of was (beneath self.new.ledger archive.new) side.chain false) }
         ensures still { self.old.ahead ≡ [] }
         ensures told { waiting self.old.clients ≡ [] }
         ensures fewer { OnOk result (length self.new.ahead ≤ length self.old.holdings.tree) }
@@ -448,7 +452,8 @@ impl<G: Ledger> Server<G> {
             let was = beneath self.old.ledger archive.old in (side : Side)
             → IsSettled of was self.old.holdings self.old.caches side → SpeakerSteps A.tells side
             (passing (asked_ghosts of ⟦<Y as Relay>⟧)
-            (asking_of (lent self.old archive.old relay.old)) (asking_of (lent self.new archive.new relay.new))) self.old result self.new }
+            (asking_of (lent self.old archive.old relay.old))
+            (asking_of (lent self.new archive.new relay.new))) self.old result self.new }
         ensures quiet { Asked ⟦<G as Ledger>⟧ self.old.ledger self.new.ledger }
         ensures caches { CachesStay ⟦<G as Ledger>⟧ self.old.ledger self.old.caches self.new.caches }
         ensures keeps { A.tells → AllGrow (A.bytes archive.old) (A.bytes archive.new) }
@@ -507,11 +512,11 @@ impl<G: Ledger> Server<G> {
     // The next line of the node.
     fn next_line(&mut self) -> Result<Option<LineEvent>, OutOfMemory>
         ensures met { IfOk result (λ found. IfSome found (λ e.
-            Gives self.old.node (as_listed e) self.new.node)) }
+            GivesEvent self.old.node (as_listed e) self.new.node)) }
         ensures none { IfOk result (λ found. IfNone found (HasGivenAll self.old.node)) }
         ensures unchanged { IfOk result (λ found. IfNone found (self.new ≡ self.old)) }
         ensures consumed { IfOk result (λ found. IfSome found (λ e.
-            held self.new.node < held self.old.node)) }
+            held_bytes self.new.node < held_bytes self.old.node)) }
         ensures line { OnErr result (NextIsLine self.old.node) }
         ensures refused { OnErr result (self.new ≡ self.old) }
         ensures limit { self.new.node.limit ≡ self.old.node.limit }
@@ -528,7 +533,8 @@ impl<G: Ledger> Server<G> {
             let was = beneath self.old.ledger archive.old in (side : Side)
             → IsSettled of was self.old.holdings self.old.caches side → PeersTurn A.tells side
             (passing (asked_ghosts of ⟦<Y as Relay>⟧)
-            (asking_of (lent self.old archive.old relay.old)) (asking_of (lent self.new archive.new relay.new))) self.old result self.new }
+            (asking_of (lent self.old archive.old relay.old))
+            (asking_of (lent self.new archive.new relay.new))) self.old result self.new }
         ensures quiet { Asked ⟦<G as Ledger>⟧ self.old.ledger self.new.ledger }
         ensures caches { CachesStay ⟦<G as Ledger>⟧ self.old.ledger self.old.caches self.new.caches }
         ensures keeps { A.tells → AllGrow (A.bytes archive.old) (A.bytes archive.new) }
@@ -583,8 +589,10 @@ impl<G: Ledger> Server<G> {
         // It takes the next event, or does what an event left, as `Run` allows.
         ensures step { (world : World) (left : List Event) → Stands G.stands self.old world left
             → (A.tells → AllGrow world.side.files (A.bytes archive.old)) → IfOk result (λ found.
-            IfSome found (λ o. TookTurn (asked_ghosts (ghosts ⟦<G as Ledger>⟧ ⟦<A as Archive>⟧) ⟦<Y as Relay>⟧)
-            (lent self.old archive.old relay.old) (lent self.new archive.new relay.new) world left (outs_of o))) }
+            IfSome found (λ o. TookTurn
+            (asked_ghosts (ghosts ⟦<G as Ledger>⟧ ⟦<A as Archive>⟧) ⟦<Y as Relay>⟧)
+            (lent self.old archive.old relay.old) (lent self.new archive.new relay.new) world left
+            (outs_of o))) }
         // Where nothing is done, nothing is left, and everyone was told.
         ensures done { (world : World) (left : List Event) → Stands G.stands self.old world left
             → IfOk result (λ found. IfNone found (IsDone G.stands ⟦<A as Archive>⟧ world left self.new)) }

@@ -1,6 +1,6 @@
 // Which script hashes a line of the node touched, of those to which clients subscribe.
 ghost use Rattle.std.specs.Prelude.{◌≡◌, ◌≢◌, [], ◌∷◌, OnOk, OnErr};
-ghost use Rattle.el_core.specs.within.Touching.{Covers, CoversAll};
+ghost use Rattle.el_core.specs.within.Touching.{HasAllSubscribed, CoversAll};
 
 use crate::clients::Clients;
 use el_base::{Hash32, OutOfMemory};
@@ -12,7 +12,7 @@ fn add_one(
     touched: &mut Touched,
     script_hash: &Hash32,
 ) -> Result<(), OutOfMemory>
-    ensures { OnOk result (Covers clients.now touched.old (script_hash.now ∷ []) touched.new) }
+    ensures { OnOk result (HasAllSubscribed clients.now touched.old (script_hash.now ∷ []) touched.new) }
 {
     if clients.hold(script_hash) {
         touched.add(*script_hash)?;
@@ -22,7 +22,7 @@ fn add_one(
 
 // Adds those of the script hashes to which some client subscribes.
 fn add_held(clients: &Clients, touched: &mut Touched, scripts: &Touched) -> Result<(), OutOfMemory>
-    ensures covers { OnOk result (Covers clients.now touched.old scripts.now touched.new) }
+    ensures covers { OnOk result (HasAllSubscribed clients.now touched.old scripts.now touched.new) }
     ensures some { OnErr result (scripts.now ≢ []) }
 {
     for script_hash in scripts.list() {

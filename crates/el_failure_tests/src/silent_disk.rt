@@ -43,7 +43,8 @@ fn serve_silent<W: Threads + Sync>(
         (devices result.1 archive.new relay.new link.new))
         archive.old archive.new t result.0 }
     // It ends as the link does, and not before.
-    ensures ended { (magic : List ℕ) → IsServe (texts words.now) magic → result.0 ≡ Status.Ended → (t : Traffic)
+    ensures ended { (magic : List ℕ) → IsServe (texts words.now) magic → result.0 ≡ Status.Ended
+        → (t : Traffic)
         × GoesOn link.old.trace link.new.trace t.arrivals t.messages t.closings × LastEnds t.arrivals }
 {
     serve(

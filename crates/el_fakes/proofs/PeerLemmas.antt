@@ -8,11 +8,11 @@ use Rattle.el_outside.specs.declared.link.Arrival.{Arrival}
 use Rattle.el_outside.specs.declared.link.Arrival.TheVariants as arrival
 use Rattle.el_outside.specs.declared.link.Why.{Why}
 use Rattle.el_outside.specs.Trace.{ArrivalWithBytes, opened, closed, quiet, ended, with_bytes, IsNextArrival, Message, Closing, Trace, is_open, opens, leaves}
-use Rattle.el_fakes.specs.Greatest.{number, greatest_arrived, greatest_closed, greatest}
+use Rattle.el_fakes.specs.Greatest.{number, greatest_arrived, greatest_closed, greatest_peer}
 use Rattle.el_fakes.specs.within.Laws.{none_opens, none_leaves, none_closed}
 use Rattle.el_fakes.specs.declared.kept.Closed.{Closed}
-use Rattle.el_fakes.specs.Kept.{closing_of}
-use Rattle.el_fakes.specs.within.Peers.{adds, but, peers_after, last_after, closed_in, AreOpenPeers}
+use Rattle.el_fakes.specs.Kept.{trace_closing}
+use Rattle.el_fakes.specs.within.Peers.{adds, but, peers_after, greatest_after, closed_in, AreOpenPeers}
 
 -- the greatest number with one more arrival
 pub greatest_arrived-push : (xs : List ArrivalWithBytes) (c : ArrivalWithBytes) → greatest_arrived (xs ++ c ∷ []) ≡ max (greatest_arrived xs) (number c)
@@ -121,7 +121,7 @@ still_open xs ms cs c q not_opened not_left =
 -- the open peers after an arrival
 pub arrives : (xs : List ArrivalWithBytes) (ms : List Message) (cs : List Closing) (peers : List ℕ) (a : Arrival) (buf : List ℕ) (now : ℕ)
     → AreOpenPeers (record { arrivals = xs; messages = ms; closings = cs }) peers
-    → IsNextArrival (greatest (record { arrivals = xs; messages = ms; closings = cs })) a now
+    → IsNextArrival (greatest_peer (record { arrivals = xs; messages = ms; closings = cs })) a now
     → AreOpenPeers (record { arrivals = xs ++ with_bytes a buf ∷ []; messages = ms; closings = cs }) (peers_after peers a)
 arrives xs ms cs peers (arrival.Opened p) buf now are next q =
     list_any-append (λ r. q == r) peers (p ∷ []) ∙ ap (λ b. b || (q == p || false)) (are q)
@@ -145,8 +145,8 @@ closes xs ms cs peers p why are q =
 
 -- the greatest number after an arrival
 pub last-arrives : (xs : List ArrivalWithBytes) (ms : List Message) (cs : List Closing) (last : ℕ) (a : Arrival) (buf : List ℕ)
-    → last ≡ greatest (record { arrivals = xs; messages = ms; closings = cs })
-    → last_after last a ≡ greatest (record { arrivals = xs ++ with_bytes a buf ∷ []; messages = ms; closings = cs })
+    → last ≡ greatest_peer (record { arrivals = xs; messages = ms; closings = cs })
+    → greatest_after last a ≡ greatest_peer (record { arrivals = xs ++ with_bytes a buf ∷ []; messages = ms; closings = cs })
 last-arrives xs ms cs last (arrival.Opened p) buf is = omega (arith, greatest_arrived-push xs (opened p))
 last-arrives xs ms cs last (arrival.Bytes p n) buf is = omega (arith, greatest_arrived-push xs (with_bytes (arrival.Bytes p n) buf))
 last-arrives xs ms cs last (arrival.Closed p) buf is = omega (arith, greatest_arrived-push xs (closed p))
@@ -154,7 +154,7 @@ last-arrives xs ms cs last arrival.Quiet buf is = omega (arith, greatest_arrived
 last-arrives xs ms cs last arrival.Ended buf is = omega (arith, greatest_arrived-push xs ended)
 
 -- an open peer's number is not greater than the greatest
-pub open_is_below : (trace : Trace) (p : ℕ) → is_open trace p ≡ true → p ≤ greatest trace
+pub open_is_below : (trace : Trace) (p : ℕ) → is_open trace p ≡ true → p ≤ greatest_peer trace
 open_is_below trace p is =
     elim (cases_lt (greatest_arrived trace.arrivals) p) [
       | inl above ↦ absurd (let with_bytes : list_any (opens p) trace.arrivals ≡ true = (and_parts _ _ is).0 in
@@ -165,11 +165,11 @@ open_is_below trace p is =
 -- closing an open peer leaves the greatest number
 pub last-closes : (xs : List ArrivalWithBytes) (ms : List Message) (cs : List Closing) (p : ℕ) (why : Why)
     → is_open (record { arrivals = xs; messages = ms; closings = cs }) p ≡ true
-    → greatest (record { arrivals = xs; messages = ms; closings = cs ++ record { peer = p; why = why } ∷ [] }) ≡ greatest (record { arrivals = xs; messages = ms; closings = cs })
+    → greatest_peer (record { arrivals = xs; messages = ms; closings = cs ++ record { peer = p; why = why } ∷ [] }) ≡ greatest_peer (record { arrivals = xs; messages = ms; closings = cs })
 last-closes xs ms cs p why is =
     omega (arith, greatest_closed-push cs (record { peer = p; why = why }), open_is_below (record { arrivals = xs; messages = ms; closings = cs }) p is)
 
 -- the peers that were closed are those of the list that is kept
-pub closed_of : (list : List Closed) (p : ℕ) → list_any (λ (d : Closing). p == d.peer) (map closing_of list) ≡ closed_in list p
+pub closed_of : (list : List Closed) (p : ℕ) → list_any (λ (d : Closing). p == d.peer) (map trace_closing list) ≡ closed_in list p
 closed_of [] p = refl
 closed_of (c ∷ cs) p = ap (λ b. p == c.peer || b) (closed_of cs p)

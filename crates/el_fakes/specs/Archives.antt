@@ -15,12 +15,12 @@ abbrev pub file_bytes : List (List ℕ) → ℕ → List ℕ
 file_bytes files file = slice_index_or files file []
 
 -- a file has fewer bytes than a file may have
-abbrev pub is_short : List ℕ → Bool
-is_short bytes = nat_lt (length bytes) SIZE_LIMIT
+abbrev pub is_below_limit : List ℕ → Bool
+is_below_limit bytes = nat_lt (length bytes) SIZE_LIMIT
 
 -- an archive may have these files
 abbrev pub are_fitting : List (List ℕ) → Bool
-are_fitting files = nat_le (length files) MOST_FILES && list_all is_short files
+are_fitting files = nat_le (length files) MOST_FILES && list_all is_below_limit files
 
 -- Block files some of whose calls fail: all bytes that each file ever has, file 0 first; which of them come
 -- later, and which room is made ahead; the numbers of the calls that fail; how many calls were made, up to

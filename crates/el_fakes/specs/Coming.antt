@@ -4,7 +4,7 @@ use Rattle.el_outside.specs.Trace.{ArrivalWithBytes, opened, brought, closed, qu
 use Rattle.el_outside.specs.declared.link.TheConstants.{BUFFER_SIZE}
 use Rattle.el_fakes.specs.declared.coming.Coming.{Coming}
 use Rattle.el_fakes.specs.declared.coming.Coming.TheVariants as step
-use Rattle.el_fakes.specs.Greatest.{greatest}
+use Rattle.el_fakes.specs.Greatest.{greatest_peer}
 
 -- A link whose calls never fail: what went over it, the steps that are still to come, and how often `next`
 -- was called.
@@ -61,4 +61,4 @@ hand_first last is_closed (c ∷ cs) =
 
 -- what comes next after a trace
 abbrev pub next_after : Trace → List Coming → Handed
-next_after trace coming = hand_first (greatest trace) (was_closed trace) coming
+next_after trace coming = hand_first (greatest_peer trace) (was_closed trace) coming

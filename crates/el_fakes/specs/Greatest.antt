@@ -21,5 +21,5 @@ greatest_closed [] = 0
 greatest_closed (c ∷ cs) = max c.peer (greatest_closed cs)
 
 -- the greatest number of a peer in the trace: 0 where there is none
-abbrev pub greatest : Trace → ℕ
-greatest trace = max (greatest_arrived trace.arrivals) (greatest_closed trace.closings)
+abbrev pub greatest_peer : Trace → ℕ
+greatest_peer trace = max (greatest_arrived trace.arrivals) (greatest_closed trace.closings)

@@ -4,9 +4,9 @@ use Rattle.el_fakes.specs.declared.kept.Sent.{Sent}
 use Rattle.el_fakes.specs.declared.kept.Closed.{Closed}
 
 -- a text that was sent, as the trace has it
-abbrev pub message_of : Sent → Message
-message_of s = record { peer = s.peer; text = s.text }
+abbrev pub trace_message : Sent → Message
+trace_message s = record { peer = s.peer; text = s.text }
 
 -- a peer that was closed and why, as the trace has it
-abbrev pub closing_of : Closed → Closing
-closing_of c = record { peer = c.peer; why = c.why }
+abbrev pub trace_closing : Closed → Closing
+trace_closing c = record { peer = c.peer; why = c.why }

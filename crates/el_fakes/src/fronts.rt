@@ -1,7 +1,7 @@
 // What the devices in memory do with slices.
 ghost use Rattle.std.specs.Prelude.{◌≡◌, ℕ, ◌-◌, ◌==◌, ◌≤◌, ◌++◌, length, take, drop, min, replicate};
 ghost use Rattle.std.specs.List.{list_any, list_all};
-ghost use Rattle.el_fakes.specs.Archives.{file_bytes, is_short, are_fitting};
+ghost use Rattle.el_fakes.specs.Archives.{file_bytes, is_below_limit, are_fitting};
 
 use el_base::Bytes;
 use el_outside::{MOST_FILES, SIZE_LIMIT};
@@ -54,7 +54,7 @@ pub fn is_listed(numbers: &[u64], n: u64) -> bool
 
 // Whether each has fewer bytes than a file may have.
 fn are_short(files: &[Bytes]) -> bool
-    ensures { result ≡ list_all is_short files.now }
+    ensures { result ≡ list_all is_below_limit files.now }
 {
     files.iter().all(|bytes| (bytes.len() as u64) < SIZE_LIMIT)
 }

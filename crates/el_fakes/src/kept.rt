@@ -1,6 +1,6 @@
 // What a link in memory keeps of what was sent and closed.
 ghost use Rattle.std.specs.Prelude.{◌≡◌, [], ◌∷◌, ◌+◌, ◌<◌, ◌++◌, map, vec_len, vec_capacity, OnOk, OnErr};
-ghost use Rattle.el_fakes.specs.Kept.{message_of};
+ghost use Rattle.el_fakes.specs.Kept.{trace_message};
 
 use el_base::{Bytes, OutOfMemory};
 use el_outside::{Peer, Why};
@@ -31,9 +31,9 @@ pub(crate) fn keep(
     peer: Peer,
     bytes: &[u8],
 ) -> Result<(), OutOfMemory>
-    ensures ok { OnOk result (map message_of sent.new.items
-        ≡ map message_of sent.old.items ++ record { peer = peer; text = bytes.now } ∷ []) }
-    ensures err { OnErr result (map message_of sent.new.items ≡ map message_of sent.old.items) }
+    ensures ok { OnOk result (map trace_message sent.new.items
+        ≡ map trace_message sent.old.items ++ record { peer = peer; text = bytes.now } ∷ []) }
+    ensures err { OnErr result (map trace_message sent.new.items ≡ map trace_message sent.old.items) }
 {
     let text = Bytes::from_slice(alloc, bytes)?;
     sent.push(Sent { peer, text })?;

@@ -4,8 +4,8 @@ ghost use Rattle.std.specs.List.{list_any};
 ghost use Rattle.el_outside.specs.Counts.{RoseBy, HasCause, risen};
 ghost use Rattle.el_outside.specs.Trace.{GoesOn, IsNextArrival, NamesNoClosed, with_bytes, is_open};
 ghost use Rattle.el_fakes.specs.Coming.{next_after};
-ghost use Rattle.el_fakes.specs.Greatest.{greatest};
-ghost use Rattle.el_fakes.specs.Kept.{message_of, closing_of};
+ghost use Rattle.el_fakes.specs.Greatest.{greatest_peer};
+ghost use Rattle.el_fakes.specs.Kept.{trace_message, trace_closing};
 
 use crate::coming::Coming;
 use crate::fronts::is_listed;
@@ -77,14 +77,14 @@ impl MemLink {
 
     /// The messages that were sent, in order.
     pub fn sent(&self) -> &[Sent]
-        ensures { map message_of result.now ≡ self.now.trace.messages }
+        ensures { map trace_message result.now ≡ self.now.trace.messages }
     {
         self.link.sent()
     }
 
     /// The peers that were closed, in order.
     pub fn closed(&self) -> &[Closed]
-        ensures { map closing_of result.now ≡ self.now.trace.closings }
+        ensures { map trace_closing result.now ≡ self.now.trace.closings }
     {
         self.link.closed()
     }
@@ -129,7 +129,7 @@ impl Link for MemLink {
 
     ghost trace = { λ made. made.trace };
 
-    ghost last = { λ made. greatest made.trace };
+    ghost last = { λ made. greatest_peer made.trace };
 
     ghost calls = { λ made. made.calls };
 
@@ -140,7 +140,7 @@ impl Link for MemLink {
     fn next(&mut self, buf: &mut [u8]) -> Result<Arrival, LinkFailed>
         requires { length buf.old ≡ BUFFER_SIZE }
         ensures lawful { IfOk result (λ arrival.
-            IsNextArrival (greatest self.old.trace) arrival (greatest self.new.trace)) }
+            IsNextArrival (greatest_peer self.old.trace) arrival (greatest_peer self.new.trace)) }
         ensures took { IfOk result (λ arrival.
             GoesOn self.old.trace self.new.trace (with_bytes arrival buf.new ∷ []) [] []) }
         ensures silent { IfOk result (λ arrival. NamesNoClosed self.old.trace (with_bytes arrival buf.new)) }
@@ -170,7 +170,7 @@ impl Link for MemLink {
         ensures sent { OnOk result
             (GoesOn self.old.trace self.new.trace [] (record { peer = p; text = bytes.now } ∷ []) []) }
         ensures not_sent { OnErr result (self.new.trace ≡ self.old.trace) }
-        ensures same_last { greatest self.new.trace ≡ greatest self.old.trace }
+        ensures same_last { greatest_peer self.new.trace ≡ greatest_peer self.old.trace }
         ensures counted { IsErrOf result SendFault.Gone → RoseBy self.old.faults self.new.faults 1 }
         ensures uncounted { OnOk result (self.new.faults ≡ self.old.faults) }
         ensures memory_uncounted { IsErrOf result SendFault.Memory → self.new.faults ≡ self.old.faults }
@@ -193,7 +193,7 @@ impl Link for MemLink {
         ensures closed { MatchBool (is_open self.old.trace p)
             (GoesOn self.old.trace self.new.trace [] [] (record { peer = p; why = why } ∷ []))
             (self.new.trace ≡ self.old.trace) }
-        ensures same_last { greatest self.new.trace ≡ greatest self.old.trace }
+        ensures same_last { greatest_peer self.new.trace ≡ greatest_peer self.old.trace }
         ensures same { self.new ≡ record self.old { trace = self.new.trace } }
     {
         self.link.close(p, why);

@@ -1,7 +1,7 @@
 // The open peers of a link in memory.
 ghost use Rattle.std.specs.Prelude.{◌≡◌, ℕ, ◌+◌, ◌==◌, ◌≤◌, List, [], ◌++◌, length, vec_len, vec_capacity};
 ghost use Rattle.std.specs.List.{list_any};
-ghost use Rattle.el_fakes.specs.within.Peers.{adds, last_after, peers_after, but, closed_in};
+ghost use Rattle.el_fakes.specs.within.Peers.{adds, greatest_after, peers_after, but, closed_in};
 
 use crate::kept::Closed;
 use el_outside::{Arrival, Peer};
@@ -32,7 +32,7 @@ pub(crate) fn remove(peers: &mut Vec<Peer>, p: Peer)
 pub(crate) fn welcome(peers: &mut Vec<Peer>, last: Peer, arrival: Arrival) -> Peer
     requires { vec_len peers.old + adds arrival ≤ vec_capacity peers.old }
     ensures peers { peers.new.items ≡ peers_after peers.old.items arrival }
-    ensures last { result ≡ last_after last arrival }
+    ensures last { result ≡ greatest_after last arrival }
     ensures room { vec_capacity peers.new ≡ vec_capacity peers.old }
 {
     match arrival {

@@ -3,8 +3,8 @@ ghost use Rattle.std.specs.Prelude.{◌≡◌, [], ◌∷◌, IfOk, IsOk, OnOk, 
 ghost use Rattle.el_outside.specs.Counts.{risen};
 ghost use Rattle.el_outside.specs.Trace.{GoesOn, IsNextArrival, NamesNoClosed, with_bytes, is_open};
 ghost use Rattle.el_fakes.specs.Coming.{next_after};
-ghost use Rattle.el_fakes.specs.Greatest.{greatest};
-ghost use Rattle.el_fakes.specs.Kept.{message_of, closing_of};
+ghost use Rattle.el_fakes.specs.Greatest.{greatest_peer};
+ghost use Rattle.el_fakes.specs.Kept.{trace_message, trace_closing};
 
 use crate::coming::Coming;
 use crate::heard::{Heard, then};
@@ -38,9 +38,9 @@ impl Model for SteadyLink {
 
     ghost Value = { SteadyState };
 
-    ghost use Rattle.el_fakes.specs.within.Links.{state_of, FieldsAgree};
+    ghost use Rattle.el_fakes.specs.within.Links.{link_state, FieldsAgree};
 
-    ghost view = { state_of };
+    ghost view = { link_state };
 
     ghost invariant = { FieldsAgree };
 }
@@ -72,14 +72,14 @@ impl SteadyLink {
 
     /// The messages that were sent, in order.
     pub fn sent(&self) -> &[Sent]
-        ensures { map message_of result.now ≡ self.now.trace.messages }
+        ensures { map trace_message result.now ≡ self.now.trace.messages }
     {
         self.sent.as_slice()
     }
 
     /// The peers that were closed, in order.
     pub fn closed(&self) -> &[Closed]
-        ensures { map closing_of result.now ≡ self.now.trace.closings }
+        ensures { map trace_closing result.now ≡ self.now.trace.closings }
     {
         self.closed.as_slice()
     }
@@ -92,7 +92,7 @@ impl Link for SteadyLink {
 
     ghost trace = { λ link. link.trace };
 
-    ghost last = { λ link. greatest link.trace };
+    ghost last = { λ link. greatest_peer link.trace };
 
     ghost calls = { λ link. link.calls };
 
@@ -104,7 +104,7 @@ impl Link for SteadyLink {
         requires { length buf.old ≡ BUFFER_SIZE }
         ensures succeeds { IsOk result }
         ensures lawful { IfOk result (λ arrival.
-            IsNextArrival (greatest self.old.trace) arrival (greatest self.new.trace)) }
+            IsNextArrival (greatest_peer self.old.trace) arrival (greatest_peer self.new.trace)) }
         ensures took { IfOk result (λ arrival.
             GoesOn self.old.trace self.new.trace (with_bytes arrival buf.new ∷ []) [] []) }
         ensures silent { IfOk result (λ arrival. NamesNoClosed self.old.trace (with_bytes arrival buf.new)) }
@@ -130,7 +130,7 @@ impl Link for SteadyLink {
         ensures sent { OnOk result
             (GoesOn self.old.trace self.new.trace [] (record { peer = p; text = bytes.now } ∷ []) []) }
         ensures not_sent { OnErr result (self.new.trace ≡ self.old.trace) }
-        ensures same_last { greatest self.new.trace ≡ greatest self.old.trace }
+        ensures same_last { greatest_peer self.new.trace ≡ greatest_peer self.old.trace }
         ensures never_gone { IsErrOf result SendFault.Gone → ⊥ }
         ensures same { self.new ≡ record self.old { trace = self.new.trace } }
     {
@@ -144,7 +144,7 @@ impl Link for SteadyLink {
         ensures closed { MatchBool (is_open self.old.trace p)
             (GoesOn self.old.trace self.new.trace [] [] (record { peer = p; why = why } ∷ []))
             (self.new.trace ≡ self.old.trace) }
-        ensures same_last { greatest self.new.trace ≡ greatest self.old.trace }
+        ensures same_last { greatest_peer self.new.trace ≡ greatest_peer self.old.trace }
         ensures same { self.new ≡ record self.old { trace = self.new.trace } }
     {
         if is_among(self.peers.as_slice(), p) {

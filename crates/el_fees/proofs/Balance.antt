@@ -16,16 +16,16 @@ use Rattle.el_mempool.specs.declared.fees.FeeChange.{FeeChange}
 use Rattle.el_mempool.specs.declared.fees.TheConstants.{FEE_EDGES}
 use Rattle.el_mempool.specs.Standing.{kept_tx}
 use Rattle.el_mempool.specs.Fees.{edge_of, has_edge, histogram, fee_change, stay_changes, fee_changes, FitTogether}
-use Rattle.el_fees.specs.Tables.{is_at, size_at, sizes_of}
+use Rattle.el_fees.specs.Tables.{is_at_edge, size_at, sizes_of}
 use Rattle.el_fees.specs.within.Sums.{added_at, removed_at, IsBalanced}
 
 -- what one entry puts to the sum of an edge
 abbrev own : ℕ → KeptTx → ℕ
-own e k = if is_at e k then k.vsize else 0
+own e k = if is_at_edge e k then k.vsize else 0
 
 size_more : (e : ℕ) (k : KeptTx) (ks : List KeptTx) → size_at (k ∷ ks) e ≡ own e k + size_at ks e
-size_more e k ks = elim (cases_Bool (is_at e k)) [
-  | inl h ↦ rw h (sum_by-cons (λ (x : KeptTx). x.vsize) k (filter (is_at e) ks))
+size_more e k ks = elim (cases_Bool (is_at_edge e k)) [
+  | inl h ↦ rw h (sum_by-cons (λ (x : KeptTx). x.vsize) k (filter (is_at_edge e) ks))
   | inr h ↦ rw h (omega arith)
 ]
 
@@ -103,7 +103,7 @@ part_le e (k ∷ ks) =
     let a = size_more e k ks in
     let b = sum_by-cons (λ (x : KeptTx). x.vsize) k ks in
     let c = part_le e ks in
-    let d = own_le (is_at e k) k.vsize in
+    let d = own_le (is_at_edge e k) k.vsize in
     omega (arith, a, b, c, d)
   where
     own_le : (b : Bool) (v : ℕ) → (if b then v else 0) ≤ v
@@ -160,13 +160,13 @@ zip_rows [] f = refl
 zip_rows (e ∷ es) f = ap (λ (t : List (ℕ × ℕ)). with_sum f e ∷ t) (zip_rows es f)
 
 at_entries : (e : ℕ) (chain : Chain) (kept list : List Tx)
-    → sum_by (λ (k : KeptTx). k.vsize) (filter (is_at e) (map (kept_tx chain kept) list)) ≡ sum_by vsize (filter (has_edge chain kept e) list)
+    → sum_by (λ (k : KeptTx). k.vsize) (filter (is_at_edge e) (map (kept_tx chain kept) list)) ≡ sum_by vsize (filter (has_edge chain kept e) list)
 at_entries e chain kept [] = refl
 at_entries e chain kept (t ∷ ts) =
     let more = at_entries e chain kept ts in
     elim (cases_Bool (has_edge chain kept e t)) [
       | inl h ↦
-          let a = sum_by-cons (λ (x : KeptTx). x.vsize) (kept_tx chain kept t) (filter (is_at e) (map (kept_tx chain kept) ts)) in
+          let a = sum_by-cons (λ (x : KeptTx). x.vsize) (kept_tx chain kept t) (filter (is_at_edge e) (map (kept_tx chain kept) ts)) in
           let b = sum_by-cons vsize t (filter (has_edge chain kept e) ts) in
           rw h (a ∙ ap (λ (n : ℕ). vsize t + n) more ∙ sym b)
       | inr h ↦ rw h more

@@ -5,12 +5,12 @@ use Rattle.el_mempool.specs.declared.fees.TheConstants.{FEE_EDGES}
 use Rattle.el_mempool.specs.Fees.{edge_of}
 
 -- the entry has that edge
-abbrev pub is_at : ℕ → KeptTx → Bool
-is_at e k = edge_of k.fee k.vsize == e
+abbrev pub is_at_edge : ℕ → KeptTx → Bool
+is_at_edge e k = edge_of k.fee k.vsize == e
 
 -- the sum of the sizes of the entries that have the edge
 abbrev pub size_at : List KeptTx → ℕ → ℕ
-size_at entries e = sum_by (λ (k : KeptTx). k.vsize) (filter (is_at e) entries)
+size_at entries e = sum_by (λ (k : KeptTx). k.vsize) (filter (is_at_edge e) entries)
 
 -- the sums of these entries, one for each edge
 unfoldable pub sizes_of : List KeptTx → List ℕ

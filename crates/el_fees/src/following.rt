@@ -51,7 +51,8 @@ fn sum_after(edge: u64, own: u64, sum: u64, change: &FeeChange) -> u64
 // The sums after the change.
 fn follow_one(sizes: &mut [u64; FEE_EDGE_COUNT], change: &FeeChange)
     ensures small { AreSums sizes.new }
-    ensures balanced { (k : ℕ) → k < FEE_EDGE_COUNT → IsBalanced (slice_index sizes.old k) (slice_index sizes.new k)
+    ensures balanced { (k : ℕ) → k < FEE_EDGE_COUNT
+        → IsBalanced (slice_index sizes.old k) (slice_index sizes.new k)
         (added_at (slice_index FEE_EDGES k) change.now) (removed_at (slice_index FEE_EDGES k) change.now) }
 {
     let own = edge_of(change.fee, change.vsize);
@@ -64,7 +65,8 @@ fn follow_one(sizes: &mut [u64; FEE_EDGE_COUNT], change: &FeeChange)
 pub fn follow_all(sizes: &mut [u64; FEE_EDGE_COUNT], changes: &[FeeChange])
     requires { AreSums sizes.old }
     ensures small { AreSums sizes.new }
-    ensures balanced { (k : ℕ) → k < FEE_EDGE_COUNT → IsBalanced (slice_index sizes.old k) (slice_index sizes.new k)
+    ensures balanced { (k : ℕ) → k < FEE_EDGE_COUNT
+        → IsBalanced (slice_index sizes.old k) (slice_index sizes.new k)
         (sum_by (added_at (slice_index FEE_EDGES k)) changes.now)
         (sum_by (removed_at (slice_index FEE_EDGES k)) changes.now) }
 {

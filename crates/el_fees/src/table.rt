@@ -7,7 +7,7 @@ ghost use Rattle.el_mempool.specs.declared.held.KeptTx as kept_shape;
 ghost use Rattle.el_mempool.specs.declared.fees.TheConstants.{FEE_EDGES, FEE_EDGE_COUNT};
 ghost use Rattle.el_mempool.specs.Fees.{AreFeeChanges, FitTogether};
 ghost use Rattle.el_mempool.specs.Fees as fees;
-ghost use Rattle.el_mempool.specs.Standing.{StandsFor};
+ghost use Rattle.el_mempool.specs.Standing.{KeptStandFor};
 ghost use Rattle.el_fees.specs.Tables.{IsTableOf};
 
 use crate::following::follow_all;
@@ -70,7 +70,7 @@ impl FeeTable {
     /// Fails only where memory runs out.
     pub fn histogram(&self, alloc: Global) -> Result<Vec<(u64, u64)>, OutOfMemory>
         ensures { (entries : List kept_shape.KeptTx) (chain : Chain) (kept : List shape.Tx)
-            → IsTableOf self.now entries → StandsFor entries chain kept
+            → IsTableOf self.now entries → KeptStandFor entries chain kept
             → IfOk result (λ rows. rows.items ≡ fees.histogram chain kept) }
     {
         let rows = rows_of(alloc, FEE_EDGES.as_slice(), self.sizes.as_slice())?;

@@ -14,7 +14,7 @@ use Rattle.el_outside.specs.declared.archive.TheConstants.{SIZE_LIMIT}
 use Rattle.el_files.specs.declared.limits.TheConstants.{HEAD_SIZE}
 use Rattle.el_files.specs.Scanning.{IsFoundIn, IsFoundAt}
 pub use Rattle.el_chain.proofs.RecordBytes.{header_in_front, size_bounds}
-use Rattle.el_files.specs.within.Finding.{IsAt, IsIn}
+use Rattle.el_files.specs.within.Finding.{IsRecordAt, IsHeadIn}
 
 -- so is the node
 pub node_in_front : (file place size : ℕ) (xs : List ℕ) → node_of file place size (take 80 xs) ≡ node_of file place size xs
@@ -41,7 +41,7 @@ node_read magic bytes header file place left n node size front is =
 
 -- and what is known of it
 pub node_found : (file place left n : ℕ) (header : List ℕ) (node : Node) → (MIN_BLOCK_SIZE ≤ n) × (n ≤ MAX_BLOCK_WEIGHT) × (8 + n ≤ left) → place + left < SIZE_LIMIT
-    → node ≡ node_of file place n header → IsNode node → IsAt file place node × (8 + node.place.len ≤ left)
+    → node ≡ node_of file place n header → IsNode node → IsRecordAt file place node × (8 + node.place.len ≤ left)
 node_found file place left n header node bounds small is good =
     let in_file : node.place.file ≡ file = ap (λ (m : Node). m.place.file) is in
     let offset : node.place.offset ≡ place = ap (λ (m : Node). m.place.offset) is in
@@ -51,8 +51,8 @@ node_found file place left n header node bounds small is good =
     )
 
 -- it stands in the piece in which it was read
-pub in_piece : (magic piece here : List ℕ) (file place passed left : ℕ) (node : Node) → IsAt file (place + passed) node → passed + HEAD_SIZE ≤ length piece
-    → here ≡ drop passed piece → Some node ≡ node_at magic file (place + passed) here left → IsIn magic file place piece node
+pub in_piece : (magic piece here : List ℕ) (file place passed left : ℕ) (node : Node) → IsRecordAt file (place + passed) node → passed + HEAD_SIZE ≤ length piece
+    → here ≡ drop passed piece → Some node ≡ node_at magic file (place + passed) here left → IsHeadIn magic file place piece node
 in_piece magic piece here file place passed left node is long there told = record {
   found = is.found;
   file = is.file;
@@ -66,7 +66,7 @@ in_piece magic piece here file place passed left node is long there told = recor
 
 -- a read gave the piece
 pub read_in : (gave : ℕ → ℕ → List ℕ → Type 0) (magic piece given : List ℕ) (file place : ℕ) → gave file place given → piece ≡ given
-    → (node : Node) → IsIn magic file place piece node → IsFoundIn gave magic file node
+    → (node : Node) → IsHeadIn magic file place piece node → IsFoundIn gave magic file node
 read_in gave magic piece given file place gives same node is = record {
   found = is.found;
   file = is.file;
@@ -75,11 +75,11 @@ read_in gave magic piece given file place gives same node is = record {
 
 -- a read gave the head
 pub read_at : (gave : ℕ → ℕ → List ℕ → Type 0) (magic head given : List ℕ) (file place left : ℕ) (found : Option Node) → gave file place given
-    → head ≡ given → HEAD_SIZE ≤ length head → found ≡ node_at magic file place head left → IfSome found (IsAt file place) → IfSome found (IsFoundAt gave magic file place)
+    → head ≡ given → HEAD_SIZE ≤ length head → found ≡ node_at magic file place head left → IfSome found (IsRecordAt file place) → IfSome found (IsFoundAt gave magic file place)
 read_at gave magic head given file place left None gives same long told is = tt
 read_at gave magic head given file place left (Some node) gives same long told is =
     let here : place ≡ place + 0 = omega arith in
-    let at_front : IsAt file (place + 0) node = rw (← here) is in
+    let at_front : IsRecordAt file (place + 0) node = rw (← here) is in
     let told_there : Some node ≡ node_at magic file (place + 0) head left = told ∙ ap (λ (p : ℕ). node_at magic file p head left) here in
     record {
       found = read_in gave magic head given file place gives same node (in_piece magic head head file place 0 left node at_front long refl told_there);

@@ -13,7 +13,7 @@ use Rattle.el_files.specs.declared.limits.TheConstants.{HEAD_SIZE, MIN_RECORD_SI
 use Rattle.el_chain.specs.declared.limits.TheConstants.{PREFIX_SIZE}
 
 -- A block that was found in the block files. Its record ends where a file can.
-pub record IsFound (n : Node) : Type 0 where
+pub record IsFoundBlock (n : Node) : Type 0 where
   pub node : IsNode n
   pub least : MIN_BLOCK_SIZE ≤ n.place.len
   pub most : n.place.len ≤ MAX_BLOCK_WEIGHT
@@ -28,7 +28,8 @@ pub record HasHead (magic : List ℕ) (number place : ℕ) (bytes : List ℕ) (n
   pub tells : node_at magic number (place + from) (drop from bytes) left ≡ Some n
 
 -- one read of the file with this number gave bytes that have the head of the node's record
-pub record WasRead (gave : ℕ → ℕ → List ℕ → Type 0) (magic : List ℕ) (number : ℕ) (n : Node) : Type 0 where
+pub record WasHeadRead (gave : ℕ → ℕ → List ℕ → Type 0) (magic : List ℕ) (number : ℕ)
+    (n : Node) : Type 0 where
   pub place : ℕ
   pub bytes : List ℕ
   pub given : gave number place bytes
@@ -36,9 +37,9 @@ pub record WasRead (gave : ℕ → ℕ → List ℕ → Type 0) (magic : List �
 
 -- it was found in this file
 pub record IsFoundIn (gave : ℕ → ℕ → List ℕ → Type 0) (magic : List ℕ) (number : ℕ) (n : Node) : Type 0 where
-  pub found : IsFound n
+  pub found : IsFoundBlock n
   pub file : n.place.file ≡ number
-  pub read : WasRead gave magic number n
+  pub read : WasHeadRead gave magic number n
 
 -- its record stands at this place of this file
 pub record IsFoundAt (gave : ℕ → ℕ → List ℕ → Type 0) (magic : List ℕ) (number at : ℕ) (n : Node)

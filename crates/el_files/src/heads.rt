@@ -4,7 +4,7 @@ ghost use Rattle.std.specs.Str.{bytes_eq};
 ghost use Rattle.el_chain.specs.Records as records;
 ghost use Rattle.el_chain.specs.Records.{IsNode};
 ghost use Rattle.el_outside.specs.declared.archive.TheConstants.{SIZE_LIMIT};
-ghost use Rattle.el_files.specs.within.Finding.{IsAt};
+ghost use Rattle.el_files.specs.within.Finding.{IsRecordAt};
 
 use crate::limits::HEAD_SIZE;
 use el_block::MAX_BLOCK_WEIGHT;
@@ -69,7 +69,7 @@ pub fn node_in(bytes: &[u8], magic: [u8; 4], file: u32, at: u64, left: u64) -> O
     requires long { HEAD_SIZE ≤ length bytes.now }
     requires small { at + left < SIZE_LIMIT }
     ensures is { result ≡ records.node_at magic file at bytes.now left }
-    ensures node { IfSome result (λ node. IsAt file at node) }
+    ensures node { IfSome result (λ node. IsRecordAt file at node) }
     ensures within { IfSome result (λ node. PREFIX_SIZE + node.place.len ≤ left) }
 {
     let len = size_in(bytes, magic, left)?;

@@ -2,7 +2,7 @@
 ghost use Rattle.std.specs.Prelude.{◌≡◌, ◌+◌, ◌<◌, ◌≤◌, ℕ, List, take, length, IfOk};
 ghost use Rattle.el_outside.specs.declared.archive.TheConstants.{SIZE_LIMIT};
 ghost use Rattle.el_files.specs.Appending.{AppendsOnly};
-ghost use Rattle.el_files.specs.within.Finding.{IsIn};
+ghost use Rattle.el_files.specs.within.Finding.{IsHeadIn};
 ghost use Rattle.el_files.specs.within.Walking.{Walked};
 
 use crate::heads::node_in;
@@ -27,7 +27,7 @@ pub fn walk(
     ensures walked { (bytes : List ℕ) → length bytes ≡ left → piece.now ≡ take (length piece.now) bytes
         → (passed : ℕ) × Walked magic file at passed bytes found.old.items found.new.items
         × IfOk result (λ n. n ≡ passed) }
-    ensures nodes { AppendsOnly (IsIn magic file at piece.now) found.old.items found.new.items }
+    ensures nodes { AppendsOnly (IsHeadIn magic file at piece.now) found.old.items found.new.items }
     ensures far { IfOk result (λ n. (length piece.now < n + HEAD_SIZE) × (n ≤ left)) }
 {
     let mut passed = 0usize;

@@ -7,7 +7,7 @@ use Rattle.el_gen.specs.Generated.{coinbase, spend, block_record}
 use Rattle.el_base.specs.declared.hash.Hash32.{Hash32}
 use Rattle.el_block.specs.Blocks.{block_hash}
 use Rattle.el_block.specs.declared.block.Block.{Block}
-use Rattle.el_gen.specs.MadeFile.{made_txs, made_block, branch_blocks, last_hash, first_output, halves, no_block, first_branch, side_branch, first_tip, regtest_magic, block_records, made_file}
+use Rattle.el_gen.specs.MadeFile.{made_txs, made_block, branch_blocks, last_block_hash, first_output, halves, no_block, first_branch, side_branch, first_tip, regtest_magic, block_records, made_file}
 
 -- the first block of those that are left
 pub branch_next : (previous : Hash32) (before branch height n : ℕ) → 0 < n
@@ -22,7 +22,7 @@ branch_next previous before branch height (suc n) lt =
 pub branch_parted : (previous : Hash32) (branch height m n : ℕ)
     → branch_blocks previous branch branch height (m + n)
     ≡ branch_blocks previous branch branch height m
-    ++ branch_blocks (last_hash previous (branch_blocks previous branch branch height m)) branch branch (height + m) n
+    ++ branch_blocks (last_block_hash previous (branch_blocks previous branch branch height m)) branch branch (height + m) n
 branch_parted previous branch height zero n =
     let e : 0 + n ≡ n = omega arith in
     let f : height + 0 ≡ height = omega arith in rw (e, f) refl
@@ -32,7 +32,7 @@ branch_parted previous branch height (suc m) n =
     let next = block_hash (made_block previous branch branch height).header in
     rw e (ap (λ bs. made_block previous branch branch height ∷ bs) (rw f at (branch_parted next branch (height + 1) m n)))
 
-pub last_joined : (previous : Hash32) (a b : List Block) → last_hash previous (a ++ b) ≡ last_hash (last_hash previous a) b
+pub last_joined : (previous : Hash32) (a b : List Block) → last_block_hash previous (a ++ b) ≡ last_block_hash (last_block_hash previous a) b
 last_joined previous [] b = refl
 last_joined previous (x ∷ a) b = last_joined (block_hash x.header) a b
 
@@ -65,13 +65,13 @@ step_written target out previous before branch height n m some less inv =
     append_assoc out (block_record regtest_magic b) (block_records (rest m)) ∙ ap (λ (xs : List ℕ). out ++ xs) (sym e) ∙ inv
 
 pub step_hash : (target previous : Hash32) (before branch height n m : ℕ) → 0 < n → m ≡ n - 1
-    → last_hash previous (branch_blocks previous before branch height n) ≡ target
-    → last_hash (block_hash (made_block previous before branch height).header)
+    → last_block_hash previous (branch_blocks previous before branch height n) ≡ target
+    → last_block_hash (block_hash (made_block previous before branch height).header)
     (branch_blocks (block_hash (made_block previous before branch height).header) branch branch (height + 1) m) ≡ target
 step_hash target previous before branch height n m some less inv =
     let h = block_hash (made_block previous before branch height).header in
-    ap (λ (k : ℕ). last_hash h (branch_blocks h branch branch (height + 1) k)) less
-    ∙ sym (ap (λ (bs : List Block). last_hash previous bs) (branch_next previous before branch height n some)) ∙ inv
+    ap (λ (k : ℕ). last_block_hash h (branch_blocks h branch branch (height + 1) k)) less
+    ∙ sym (ap (λ (bs : List Block). last_block_hash previous bs) (branch_next previous before branch height n some)) ∙ inv
 
 -- none is left
 pub end_written : (target out : List ℕ) (previous : Hash32) (before branch height n : ℕ) → n ≡ 0
@@ -79,13 +79,13 @@ pub end_written : (target out : List ℕ) (previous : Hash32) (before branch hei
 end_written target out previous before branch height n none inv = sym (append-nil out) ∙ (rw none at inv)
 
 pub end_hash : (target previous : Hash32) (before branch height n : ℕ) → n ≡ 0
-    → last_hash previous (branch_blocks previous before branch height n) ≡ target → previous ≡ target
+    → last_block_hash previous (branch_blocks previous before branch height n) ≡ target → previous ≡ target
 end_hash target previous before branch height n none inv = rw none at inv
 
 -- the first branch in the part that both have and its own
 pub first_parted : (count left : ℕ) → left ≤ count
     → first_branch count ≡ first_branch (count - left)
-    ++ branch_blocks (last_hash no_block (first_branch (count - left))) 0 0 (count - left) left
+    ++ branch_blocks (last_block_hash no_block (first_branch (count - left))) 0 0 (count - left) left
 first_parted count left le =
     let m : count - left + left ≡ count = omega arith in
     let z : 0 + (count - left) ≡ count - left = omega arith in
@@ -93,20 +93,20 @@ first_parted count left le =
     rw z at (rw m at parts)
 
 pub tip_made : (count left : ℕ) (h t : Hash32) (b n : ℕ) → left ≤ count
-    → h ≡ last_hash no_block (first_branch (count - left)) → b ≡ 0 → n ≡ count - left
-    → t ≡ last_hash h (branch_blocks h b 0 n left) → t ≡ first_tip count
+    → h ≡ last_block_hash no_block (first_branch (count - left)) → b ≡ 0 → n ≡ count - left
+    → t ≡ last_block_hash h (branch_blocks h b 0 n left) → t ≡ first_tip count
 tip_made count left h t b n le eh eb en et =
-    let own = branch_blocks (last_hash no_block (first_branch (count - left))) 0 0 (count - left) left in
-    et ∙ (rw (eb, en, eh) (sym (ap (λ (bs : List Block). last_hash no_block bs) (first_parted count left le)
+    let own = branch_blocks (last_block_hash no_block (first_branch (count - left))) 0 0 (count - left) left in
+    et ∙ (rw (eb, en, eh) (sym (ap (λ (bs : List Block). last_block_hash no_block bs) (first_parted count left le)
     ∙ last_joined no_block (first_branch (count - left)) own)))
 
 pub file_made : (count left : ℕ) (h : Hash32) (b n : ℕ) (o1 o2 o3 : List ℕ) → left ≤ count
     → left ≡ min 5 (count - 1) → o1 ≡ block_records (first_branch (count - left))
-    → h ≡ last_hash no_block (first_branch (count - left)) → b ≡ 0 → n ≡ count - left
+    → h ≡ last_block_hash no_block (first_branch (count - left)) → b ≡ 0 → n ≡ count - left
     → o2 ≡ o1 ++ block_records (branch_blocks h b 0 n left)
     → o3 ≡ o2 ++ block_records (branch_blocks h b 1 n (left + 1)) → o3 ≡ made_file count
 file_made count left h b n o1 o2 o3 le is e1 eh eb en e2 e3 =
-    let own = branch_blocks (last_hash no_block (first_branch (count - left))) 0 0 (count - left) left in
+    let own = branch_blocks (last_block_hash no_block (first_branch (count - left))) 0 0 (count - left) left in
     let side : block_records (branch_blocks h b 1 n (left + 1)) ≡ block_records (side_branch count) =
     rw (eh, eb, en, is) refl in
     let front : o2 ≡ block_records (first_branch count) =

@@ -4,7 +4,7 @@ use Rattle.std.proofs.lemmas.List.Sums.{sum_by-cons}
 use Rattle.el_tx.specs.declared.types.Outpoint.{Outpoint}
 use Rattle.el_tx.specs.declared.types.TxOut.{TxOut}
 use Rattle.el_tx.specs.Encoding.{some_witness, total_value}
-use Rattle.el_gen.specs.Generated.{spending_input, paid, given}
+use Rattle.el_gen.specs.Generated.{spending_input, paid, total_paid}
 
 pub bare : (from : List Outpoint) → some_witness (map spending_input from) ≡ false
 bare [] = refl
@@ -13,7 +13,7 @@ bare (o ∷ os) = bare os
 abbrev pub paid_all : List (ℕ × ℕ) → List TxOut
 paid_all to = map (λ (p : ℕ × ℕ). paid p.0 p.1) to
 
-pub same_total : (to : List (ℕ × ℕ)) → total_value (paid_all to) ≡ given to
+pub same_total : (to : List (ℕ × ℕ)) → total_value (paid_all to) ≡ total_paid to
 same_total [] = refl
 same_total (p ∷ ps) =
     sum_by-cons (λ (o : TxOut). o.value) (paid p.0 p.1) (paid_all ps)

@@ -49,8 +49,8 @@ abbrev pub spend : List Outpoint → List (ℕ × ℕ) → Tx
 spend from to = transaction (map spending_input from) (map (λ (p : ℕ × ℕ). paid p.0 p.1) to)
 
 -- the satoshi of such outputs together
-abbrev pub given : List (ℕ × ℕ) → ℕ
-given to = sum_by (λ (p : ℕ × ℕ). p.0) to
+abbrev pub total_paid : List (ℕ × ℕ) → ℕ
+total_paid to = sum_by (λ (p : ℕ × ℕ). p.0) to
 
 -- the header: 600 seconds after the one before, counted from the time of Bitcoin's second block, and the
 -- target of the network regtest, 0x207fffff

@@ -38,9 +38,9 @@ branch_blocks previous before branch height (suc n) =
     (height + 1) n
 
 -- the hash of the last of these blocks; of none it is the given one
-abbrev pub last_hash : Hash32 → List Block → Hash32
-last_hash previous [] = previous
-last_hash previous (b ∷ bs) = last_hash (block_hash b.header) bs
+abbrev pub last_block_hash : Hash32 → List Block → Hash32
+last_block_hash previous [] = previous
+last_block_hash previous (b ∷ bs) = last_block_hash (block_hash b.header) bs
 
 -- the hash that a first block names as the one before: 32 bytes 0
 abbrev pub no_block : Hash32
@@ -61,7 +61,7 @@ fork count = count - left_out count
 
 -- the hash of the block that both branches have last
 abbrev pub fork_hash : ℕ → Hash32
-fork_hash count = last_hash no_block (first_branch (fork count))
+fork_hash count = last_block_hash no_block (first_branch (fork count))
 
 -- the side branch of a first branch of so many blocks
 abbrev pub side_branch : ℕ → List Block
@@ -69,11 +69,11 @@ side_branch count = branch_blocks (fork_hash count) 0 1 (fork count) (left_out c
 
 -- the hash of the last block of the first branch
 abbrev pub first_tip : ℕ → Hash32
-first_tip count = last_hash no_block (first_branch count)
+first_tip count = last_block_hash no_block (first_branch count)
 
 -- the hash of the last block of the side branch
 abbrev pub side_tip : ℕ → Hash32
-side_tip count = last_hash (fork_hash count) (side_branch count)
+side_tip count = last_block_hash (fork_hash count) (side_branch count)
 
 -- the bytes that begin a record of the network regtest (Bitcoin's message start)
 abbrev pub regtest_magic : List ℕ

@@ -5,7 +5,7 @@ ghost use Rattle.el_tx.specs.Encoding.{HasEncoding};
 ghost use Rattle.el_block.specs.Blocks.{block_hash as hash_of};
 ghost use Rattle.el_gen.specs.Generated.{coinbase as coinbase_of, spend as spend_of, block_record as record_of};
 ghost use Rattle.el_gen.specs.MadeFile as spec;
-ghost use Rattle.el_gen.specs.MadeFile.{block_records, branch_blocks, first_output, first_tip, halves, last_hash, made_block, made_file, regtest_magic, side_tip};
+ghost use Rattle.el_gen.specs.MadeFile.{block_records, branch_blocks, first_output, first_tip, halves, last_block_hash, made_block, made_file, regtest_magic, side_tip};
 
 use crate::blocks::{block, block_record};
 use crate::transactions::{coinbase, spend};
@@ -130,7 +130,7 @@ fn write_branch(
     ensures written { OnOk result (out.new
         ≡ out.old ++ block_records (branch_blocks last.hash last.branch branch last.next count)) }
     ensures hash { IfOk result (λ tip. tip.hash
-        ≡ last_hash last.hash (branch_blocks last.hash last.branch branch last.next count)) }
+        ≡ last_block_hash last.hash (branch_blocks last.hash last.branch branch last.next count)) }
     ensures next { IfOk result (λ tip. tip.next ≡ last.next + count) }
     ensures same { IfOk result (λ tip. last.branch ≡ branch → tip.branch ≡ branch) }
 {

@@ -4,7 +4,7 @@ ghost use Rattle.std.specs.List.{AllByRecursion};
 ghost use Rattle.el_tx.specs.Encoding.{HasEncoding, IsItem, IsInput, IsOutput, max_money, some_witness, total_value};
 ghost use Rattle.el_tx.specs.Hashing as hashing;
 ghost use Rattle.el_gen.specs.Generated as spec;
-ghost use Rattle.el_gen.specs.Generated.{given};
+ghost use Rattle.el_gen.specs.Generated.{total_paid};
 
 use el_base::{Bytes, Hash32, Listed, OutOfMemory};
 use el_tx::{Outpoint, Tx, TxIn, TxOut};
@@ -128,7 +128,7 @@ fn paid_outputs(alloc: Global, to: &[(u64, u32)]) -> Result<Listed<TxOut>, OutOf
 pub fn spend(alloc: Global, from: &[Outpoint], to: &[(u64, u32)]) -> Result<Tx, OutOfMemory>
     requires inputs { 1 ≤ length from.now }
     requires outputs { 1 ≤ length to.now }
-    requires money { given to.now ≤ max_money }
+    requires money { total_paid to.now ≤ max_money }
     ensures is { IfOk result (λ t. t ≡ spec.spend from.now to.now) }
     ensures encoded { IfOk result HasEncoding }
 {

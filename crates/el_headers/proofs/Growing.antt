@@ -16,7 +16,7 @@ use Rattle.el_chain.specs.Records.{IsNode}
 use Rattle.el_chain.proofs.TouchLemmas.{hash_gives, hash_from}
 use Rattle.el_block.proofs.BlockRules.{still_differ}
 use Rattle.el_headers.specs.Adding.{IsNew}
-use Rattle.el_headers.specs.within.Tables.{greatest, names, AreOlder, open_count, Has, HasParent, HasHeight, AreHeights, IsHeight, IsParent, NoneLeft, Numbers, is_lowest}
+use Rattle.el_headers.specs.within.Tables.{greatest, is_child_of, AreOlder, open_count, Has, HasParent, HasHeight, AreHeights, IsHeight, IsParent, NoneLeft, Numbers, is_lowest}
 use Rattle.el_headers.proofs.Places.{at_left, at_last, at_more, greatest_more, greatest_passes, greatest_above}
 use Rattle.el_headers.proofs.Heights.{open_more, open_one_more, open_few}
 
@@ -102,19 +102,19 @@ numbers_more old new test key found n tests before after h =
     ∙ sym (greatest_more 0 (length found) (test h) found n (omega arith))
 
 pub older_more : (found : List Node) (older : List (Option ℕ)) (n : Node) (next : Option ℕ) → AreOlder found older
-    → next ≡ greatest (names n.header.previous) found → AreOlder (found ++ n ∷ []) (older ++ next ∷ [])
+    → next ≡ greatest (is_child_of n.header.previous) found → AreOlder (found ++ n ∷ []) (older ++ next ∷ [])
 older_more found older n next h is = record {
   count = let a = length_push found n in let b = length_push older next in let e = h.count in omega arith;
   each = λ i m at. elim (at_more found n i m at) [
     | inl old ↦
         let lt = slice_get_within found i m old in
         let le : i ≤ length found = omega arith in
-        at_left older (next ∷ []) i _ (h.each i m old) ∙ ap (λ (front : List Node). Some (greatest (names m.header.previous) front)) (sym (take-append-le i found (n ∷ []) le))
+        at_left older (next ∷ []) i _ (h.each i m old) ∙ ap (λ (front : List Node). Some (greatest (is_child_of m.header.previous) front)) (sym (take-append-le i found (n ∷ []) le))
     | inr last ↦
         let place : i ≡ length older = last.0 ∙ sym h.count in
         subst (λ (p : ℕ). slice_get (older ++ next ∷ []) p ≡ Some next) (sym place) (at_last older next)
-        ∙ ap Some (is ∙ ap (λ (m : Node). greatest (names m.header.previous) found) (sym last.1)
-        ∙ ap (λ (front : List Node). greatest (names m.header.previous) front) (sym (take_at found (n ∷ []) i (sym last.0))))
+        ∙ ap Some (is ∙ ap (λ (m : Node). greatest (is_child_of m.header.previous) found) (sym last.1)
+        ∙ ap (λ (front : List Node). greatest (is_child_of m.header.previous) front) (sym (take_at found (n ∷ []) i (sym last.0))))
   ];
 }
 

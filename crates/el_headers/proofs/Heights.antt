@@ -10,7 +10,7 @@ use Rattle.el_base.specs.declared.hash.Hash32.{Hash32}
 use Rattle.el_chain.specs.declared.node.Node.{Node}
 use Rattle.el_chain.specs.Headers.{same_hash, names_none}
 use Rattle.el_chain.proofs.TouchLemmas.{hash_gives, hash_from}
-use Rattle.el_headers.specs.within.Tables.{greatest, names, AreNewest, AreOlder, open_count, is_open_height, attached_at, stacked, Has, HasHeight, AreHeights, NoneLeft, IsUpTo, ChildrenLeft, StayKnown}
+use Rattle.el_headers.specs.within.Tables.{greatest, is_child_of, AreNewest, AreOlder, open_count, is_open_height, attached_at, stacked, Has, HasHeight, AreHeights, NoneLeft, IsUpTo, ChildrenLeft, StayKnown}
 use Rattle.el_headers.proofs.Places.{at_one, at_there, at_left, at_last, at_more, set_here, set_other, in_front, of_front, greatest_passes, greatest_above}
 
 -- a height is known or not
@@ -128,17 +128,17 @@ pub record AtChild (nodes : List Node) (older heights : List (Option ℕ)) (stac
   pub are : AreHeights nodes heights stack (ChildrenLeft parent (Some child))
 
 next_greatest : (nodes : List Node) (older heights : List (Option ℕ)) (stack : List ℕ) (parent k child : ℕ) (next : Option ℕ)
-    → (a : AtChild nodes older heights stack parent k child next) → next ≡ greatest (names a.before.hash) (take child nodes)
+    → (a : AtChild nodes older heights stack parent k child next) → next ≡ greatest (is_child_of a.before.hash) (take child nodes)
 next_greatest nodes older heights stack parent k child next a =
-    at_one older child next (greatest (names a.node.header.previous) (take child nodes)) a.next_is (a.links.each child a.node a.child_is)
-    ∙ ap (λ (h : Hash32). greatest (names h) (take child nodes)) a.named
+    at_one older child next (greatest (is_child_of a.node.header.previous) (take child nodes)) a.next_is (a.links.each child a.node a.child_is)
+    ∙ ap (λ (h : Hash32). greatest (is_child_of h) (take child nodes)) a.named
 
 -- a child that is left below this one is left up to the next
 left_below : (nodes : List Node) (older heights : List (Option ℕ)) (stack : List ℕ) (parent k child : ℕ) (next : Option ℕ)
     → (a : AtChild nodes older heights stack parent k child next) (i : ℕ) (n : Node) → slice_get nodes i ≡ Some n
     → n.header.previous ≡ a.before.hash → i < child → IsUpTo next i
 left_below nodes older heights stack parent k child next a i n at named lt =
-    let above = greatest_above 0 (names a.before.hash) (take child nodes) i n (in_front child nodes i n at lt) (hash_from n.header.previous a.before.hash named) in
+    let above = greatest_above 0 (is_child_of a.before.hash) (take child nodes) i n (in_front child nodes i n at lt) (hash_from n.header.previous a.before.hash named) in
     let le = above.2 in
     let up : i ≤ above.0 = omega arith in
     subst (λ (o : Option ℕ). IsUpTo o i) (sym (next_greatest nodes older heights stack parent k child next a ∙ above.1)) up
@@ -148,7 +148,7 @@ pub next_child : (nodes : List Node) (older heights : List (Option ℕ)) (stack 
     → (a : AtChild nodes older heights stack parent k child next) (c : ℕ) → next ≡ Some c
     → (n : Node) × (slice_get nodes c ≡ Some n) × (n.header.previous ≡ a.before.hash) × (c < child)
 next_child nodes older heights stack parent k child next a c is =
-    let found = greatest_passes 0 (names a.before.hash) (take child nodes) c (sym (next_greatest nodes older heights stack parent k child next a) ∙ is) in
+    let found = greatest_passes 0 (is_child_of a.before.hash) (take child nodes) c (sym (next_greatest nodes older heights stack parent k child next a) ∙ is) in
     let front = of_front child nodes found.0 found.1 found.3 in
     let same : found.0 ≡ c = let e = found.2 in omega arith in
     let lt = front.1 in
@@ -269,12 +269,12 @@ places_left (Some child) = child + 1
 
 -- all children of the parent are left from the newest on
 pub all_left : (nodes : List Node) (heights : List (Option ℕ)) (stack : List ℕ) (parent : ℕ) (m : Node) (newest : Option ℕ)
-    → slice_get nodes parent ≡ Some m → newest ≡ greatest (names m.hash) nodes
+    → slice_get nodes parent ≡ Some m → newest ≡ greatest (is_child_of m.hash) nodes
     → AreHeights nodes heights stack (λ i j. j ≡ parent) → AreHeights nodes heights stack (ChildrenLeft parent newest)
 all_left nodes heights stack parent m newest at is = left_as nodes heights stack (λ i j. j ≡ parent) (ChildrenLeft parent newest)
     (λ i j n b ni bj named same.
     let one : b ≡ m = at_one nodes parent b m (subst (λ (p : ℕ). slice_get nodes p ≡ Some b) same bj) at in
-    let above = greatest_above 0 (names m.hash) nodes i n ni (hash_from n.header.previous m.hash (sym named ∙ ap (λ (x : Node). x.hash) one)) in
+    let above = greatest_above 0 (is_child_of m.hash) nodes i n ni (hash_from n.header.previous m.hash (sym named ∙ ap (λ (x : Node). x.hash) one)) in
     let le = above.2 in
     let up : i ≤ above.0 = omega arith in
     (same, subst (λ (o : Option ℕ). IsUpTo o i) (sym (is ∙ above.1)) up))
@@ -285,10 +285,10 @@ pub none_left : (nodes : List Node) (heights : List (Option ℕ)) (stack : List 
 none_left nodes heights stack parent = left_as nodes heights stack (ChildrenLeft parent None) NoneLeft (λ i j n b ni bj named l. l.1)
 
 -- the newest child names the parent
-pub newest_named : (nodes : List Node) (m : Node) (newest : Option ℕ) (child : ℕ) → newest ≡ greatest (names m.hash) nodes → newest ≡ Some child
+pub newest_named : (nodes : List Node) (m : Node) (newest : Option ℕ) (child : ℕ) → newest ≡ greatest (is_child_of m.hash) nodes → newest ≡ Some child
     → (n : Node) × (slice_get nodes child ≡ Some n) × (n.header.previous ≡ m.hash)
 newest_named nodes m newest child is some =
-    let found = greatest_passes 0 (names m.hash) nodes child (sym is ∙ some) in
+    let found = greatest_passes 0 (is_child_of m.hash) nodes child (sym is ∙ some) in
     let same : found.0 ≡ child = let e = found.2 in omega arith in
     (found.1, subst (λ (p : ℕ). slice_get nodes p ≡ Some found.1) same found.3, hash_gives found.1.header.previous m.hash found.4)
 
@@ -430,5 +430,5 @@ children_start nodes heights stack parent k children newest d known are is a =
     let first = is ∙ are (get_or nodes parent d).hash in (
       all_left nodes heights stack parent (get_or nodes parent d) newest at first a,
       λ child some m there. newest_named nodes m newest child
-          (first ∙ ap (λ (x : Node). greatest (names x.hash) nodes) (at_one nodes parent (get_or nodes parent d) m at there)) some,
+          (first ∙ ap (λ (x : Node). greatest (is_child_of x.hash) nodes) (at_one nodes parent (get_or nodes parent d) m at there)) some,
     )

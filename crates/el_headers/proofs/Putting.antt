@@ -12,7 +12,7 @@ use Rattle.el_chain.specs.Headers.{same_hash, has_hash, is_known, is_second, add
 use Rattle.el_chain.specs.Records.{IsNode}
 use Rattle.el_headers.specs.Adding.{IsNew}
 use Rattle.el_headers.specs.declared.table.Table.{Table}
-use Rattle.el_headers.specs.within.Tables.{greatest, names, AreNewest, AreOlder, AreHeights, AreSame, IsTable, IsHeight, Keeps, NoneLeft, StayKnown, open_count}
+use Rattle.el_headers.specs.within.Tables.{greatest, is_child_of, AreNewest, AreOlder, AreHeights, AreSame, IsTable, IsHeight, Keeps, NoneLeft, StayKnown, open_count}
 use Rattle.el_headers.proofs.Places.{any_at, any_from, at_last, greatest_passes, greatest_above}
 use Rattle.el_headers.proofs.Heights.{open_more, open_one_more, open_few}
 use Rattle.el_headers.proofs.Growing.{found_more, added_new, numbers_more, older_more, heights_attached, heights_waiting, first_more}
@@ -89,7 +89,7 @@ is_put s t n height h node new is k =
       height_at = rw (k.heights, ← count) (at_last s.heights.items height);
       found = rw k.nodes (found_more s.nodes.items n h.found node new);
       numbers = λ q. rw k.nodes (numbers_more s.numbers t.numbers has_hash n.hash s.nodes.items n (λ p. refl) h.numbers k.numbers q);
-      children = λ q. rw k.nodes (numbers_more s.children t.children names n.header.previous s.nodes.items n (λ p. refl) h.children k.children q);
+      children = λ q. rw k.nodes (numbers_more s.children t.children is_child_of n.header.previous s.nodes.items n (λ p. refl) h.children k.children q);
       older = rw (k.nodes, k.older) (older_more s.nodes.items s.older.items n _ h.older (h.children n.header.previous));
       heights = rw (k.nodes, k.heights, k.stack) (heights_put s.nodes.items s.heights.items n height new.1 h.heights is);
       first = rw k.nodes (k.first ∙ first_more s.nodes.items s.heights.items n height s.genesis new.1 is h.first);

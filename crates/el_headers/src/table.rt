@@ -2,7 +2,7 @@
 ghost use Rattle.std.specs.Prelude.{◌≡◌, ◌<◌, ◌++◌, ◌∷◌, [], OnOk, length, vec_len, vec_capacity};
 ghost use Rattle.indexmap.specs.IndexMap.{get, spare};
 ghost use Rattle.el_chain.specs.Headers.{same_hash};
-ghost use Rattle.el_headers.specs.within.Tables.{AreSame, HasRoom, IsTable, Keeps, Numbers};
+ghost use Rattle.el_headers.specs.within.Tables.{AreSame, HasNodeRoom, IsTable, Keeps, Numbers};
 
 use el_base::{Hash32, OutOfMemory};
 use el_chain::Node;
@@ -64,7 +64,7 @@ fn make_room_in_lists(table: &mut Table) -> Result<(), OutOfMemory>
 pub fn make_room(table: &mut Table) -> Result<(), OutOfMemory>
     requires stack { table.old.stack.items ≡ [] }
     ensures same { AreSame table.new table.old }
-    ensures room { OnOk result (HasRoom table.new) }
+    ensures room { OnOk result (HasNodeRoom table.new) }
 {
     make_room_in_lists(table)?;
     table.numbers.reserve(1)?;
@@ -91,7 +91,7 @@ fn set_number(map: &mut IndexMap<Hash32, usize>, hash: Hash32, number: usize)
 
 /// Puts the node in at that height, or with none where no path leads to it.
 pub fn keep(table: &mut Table, node: Node, height: Option<u64>)
-    requires room { HasRoom table.old }
+    requires room { HasNodeRoom table.old }
     requires stack { table.old.stack.items ≡ [] }
     ensures { Keeps table.old table.new node height }
 {

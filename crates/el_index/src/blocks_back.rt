@@ -3,7 +3,7 @@ ghost use Rattle.std.specs.Prelude.{◌≡◌, ◌≤◌, ◌-◌, ◌++◌, ◌
 ghost use Rattle.el_chain.specs.declared.placed.Placed as shape;
 ghost use Rattle.el_chain.specs.Chains.{Chain};
 ghost use Rattle.el_chain.specs.Moves.{shorter};
-ghost use Rattle.el_rows.specs.Transaction.{tables_in, EditsRows};
+ghost use Rattle.el_rows.specs.Transaction.{with_edits, EditsRows};
 ghost use Rattle.el_row_formats.specs.declared.table.Table.{Table};
 ghost use Rattle.el_schema.specs.Standing.{StandWith, StandFor};
 ghost use Rattle.el_index.specs.Means.{AreRowsOf};
@@ -17,13 +17,13 @@ use el_rows::{Rows, Txn};
 fn take_back_one<R: Rows>(t: &mut Txn<'_, R>, touched: &mut Touched) -> Result<(), MoveFault>
     requires live { R.is_live t.old.rows.now }
     ensures back { (heads : ℕ) (chain : Chain) (b : shape.Placed) → R.tells
-        → StandWith heads (tables_in t.old) (chain ++ b ∷ [])
-        → OnOk result (StandWith heads (tables_in t.new) chain) }
+        → StandWith heads (with_edits t.old) (chain ++ b ∷ [])
+        → OnOk result (StandWith heads (with_edits t.new) chain) }
     ensures touched { (chain : Chain) (b : shape.Placed) → R.tells
-        → StandFor (tables_in t.old) (chain ++ b ∷ [])
+        → StandFor (with_edits t.old) (chain ++ b ∷ [])
         → OnOk result (AreAdded chain (b ∷ []) touched.old touched.new) }
-    ensures fewer { OnOk result (length (tables_in t.new Table.Blocks)
-        ≡ length (tables_in t.old Table.Blocks) - 1) }
+    ensures fewer { OnOk result (length (with_edits t.new Table.Blocks)
+        ≡ length (with_edits t.old Table.Blocks) - 1) }
     ensures edits { EditsRows MoveFault.DiskFailed t.old t.new result }
     ensures own { IfErr result IsOwn }
 {
@@ -39,14 +39,14 @@ pub(crate) fn take_back<R: Rows>(
     touched: &mut Touched,
 ) -> Result<(), MoveFault>
     requires live { R.is_live t.old.rows.now }
-    ensures back { (heads : ℕ) (chain : Chain) → R.tells → AreRowsOf heads (tables_in t.old) chain
-        → back ≤ length chain → OnOk result (AreRowsOf heads (tables_in t.new) (shorter back chain)) }
-    ensures touched { (heads : ℕ) (chain : Chain) → R.tells → AreRowsOf heads (tables_in t.old) chain
+    ensures back { (heads : ℕ) (chain : Chain) → R.tells → AreRowsOf heads (with_edits t.old) chain
+        → back ≤ length chain → OnOk result (AreRowsOf heads (with_edits t.new) (shorter back chain)) }
+    ensures touched { (heads : ℕ) (chain : Chain) → R.tells → AreRowsOf heads (with_edits t.old) chain
         → back ≤ length chain → OnOk result (AreAdded (shorter back chain) (drop (length chain - back) chain)
         touched.old touched.new) }
     // What follows holds over any rows.
-    ensures fewer { OnOk result (length (tables_in t.new Table.Blocks)
-        ≡ length (tables_in t.old Table.Blocks) - back) }
+    ensures fewer { OnOk result (length (with_edits t.new Table.Blocks)
+        ≡ length (with_edits t.old Table.Blocks) - back) }
     ensures edits { EditsRows MoveFault.DiskFailed t.old t.new result }
     ensures own { IfErr result IsOwn }
 {

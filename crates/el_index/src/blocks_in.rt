@@ -11,7 +11,7 @@ ghost use Rattle.el_chain.specs.Moves.{AreOf, AreNextBlocks, FaultInAt, IsStop};
 ghost use Rattle.el_chain.specs.Records.{IsNode, IsBlockOf};
 ghost use Rattle.el_prepare.specs.Prepared as spec;
 ghost use Rattle.el_prepare.specs.Batches.{IsPrepared, ArePrepared};
-ghost use Rattle.el_rows.specs.Transaction.{tables_in, EditsRows};
+ghost use Rattle.el_rows.specs.Transaction.{with_edits, EditsRows};
 ghost use Rattle.el_row_formats.specs.declared.table.Table.{Table};
 ghost use Rattle.el_schema.specs.Standing.{StandWith, StandFor};
 ghost use Rattle.el_index.specs.Means.{AreRowsOf};
@@ -67,14 +67,14 @@ fn connect_for<R: Rows>(
     requires prepared { (block : shape.Block) × HasBlockEncoding block
         × (prepared.now ≡ spec.prepared block) }
     ensures connected { (heads : ℕ) (chain : Chain) (block : shape.Block) → R.tells
-        → StandWith heads (tables_in t.old) chain → HasBlockEncoding block
+        → StandWith heads (with_edits t.old) chain → HasBlockEncoding block
         → prepared.now ≡ spec.prepared block → block.header.previous ≡ tip chain
-        → OnOk result ((fault chain block ≡ None) × StandWith heads (tables_in t.new)
+        → OnOk result ((fault chain block ≡ None) × StandWith heads (with_edits t.new)
         (chain ++ record { block = block; place = place } ∷ [])) }
-    ensures more { OnOk result (length (tables_in t.new Table.Blocks)
-        ≡ length (tables_in t.old Table.Blocks) + 1) }
+    ensures more { OnOk result (length (with_edits t.new Table.Blocks)
+        ≡ length (with_edits t.old Table.Blocks) + 1) }
     ensures first_fault { (chain : Chain) (block : shape.Block) (text : List ℕ) → R.tells
-        → StandFor (tables_in t.old) chain → EncodesBlock text block → prepared.now ≡ spec.prepared block
+        → StandFor (with_edits t.old) chain → EncodesBlock text block → prepared.now ≡ spec.prepared block
         → block.header.previous ≡ tip chain
         → IfErr result (λ e. IsOwn e ⊎ IsStop chain hash text e) }
     ensures edits { EditsRows MoveFault.DiskFailed t.old t.new result }
@@ -97,12 +97,12 @@ fn put_one<R: Rows>(
     requires node { IsNode node.now }
     requires of { IsBlockOf node.now text.now }
     requires prepared { IsPrepared text.now prepared.now }
-    ensures added { (heads : ℕ) (chain : Chain) → R.tells → AreRowsOf heads (tables_in t.old) chain
+    ensures added { (heads : ℕ) (chain : Chain) → R.tells → AreRowsOf heads (with_edits t.old) chain
         → node.now.header.previous ≡ tip chain → OnOk result ((b : placed_shape.Placed)
-        × IsAfter heads chain node.now text.now (tables_in t.new) b) }
-    ensures more { OnOk result (length (tables_in t.new Table.Blocks)
-        ≡ length (tables_in t.old Table.Blocks) + 1) }
-    ensures first_fault { (heads : ℕ) (chain : Chain) → R.tells → AreRowsOf heads (tables_in t.old) chain
+        × IsAfter heads chain node.now text.now (with_edits t.new) b) }
+    ensures more { OnOk result (length (with_edits t.new Table.Blocks)
+        ≡ length (with_edits t.old Table.Blocks) + 1) }
+    ensures first_fault { (heads : ℕ) (chain : Chain) → R.tells → AreRowsOf heads (with_edits t.old) chain
         → node.now.header.previous ≡ tip chain
         → IfErr result (λ e. IsOwn e ⊎ IsStop chain node.now.hash text.now e) }
     ensures edits { EditsRows MoveFault.DiskFailed t.old t.new result }
@@ -126,13 +126,13 @@ fn put_all<R: Rows>(
     requires prepared { (passed rest : List (List ℕ)) × (drop from texts.now ≡ passed ++ rest)
         × ArePrepared passed blocks.now None }
     ensures added { (heads : ℕ) (chain blocks_before : Chain) → R.tells
-        → IsAdding heads chain nodes.now texts.now from (tables_in t.old) blocks_before
+        → IsAdding heads chain nodes.now texts.now from (with_edits t.old) blocks_before
         → OnOk result ((all : Chain)
-        × IsAdding heads chain nodes.now texts.now (from + length blocks.now) (tables_in t.new) all) }
-    ensures more { OnOk result (length (tables_in t.new Table.Blocks)
-        ≡ length (tables_in t.old Table.Blocks) + length blocks.now) }
+        × IsAdding heads chain nodes.now texts.now (from + length blocks.now) (with_edits t.new) all) }
+    ensures more { OnOk result (length (with_edits t.new Table.Blocks)
+        ≡ length (with_edits t.old Table.Blocks) + length blocks.now) }
     ensures first_fault { (heads : ℕ) (chain blocks_before : Chain) → R.tells
-        → IsAdding heads chain nodes.now texts.now from (tables_in t.old) blocks_before
+        → IsAdding heads chain nodes.now texts.now from (with_edits t.old) blocks_before
         → IfErr result (λ e. IsOwn e ⊎ FaultInAt chain nodes.now texts.now e) }
     ensures edits { EditsRows MoveFault.DiskFailed t.old t.new result }
     ensures no_archive { IfErr result (λ e. e ≢ MoveFault.ArchiveFailed) }
@@ -162,13 +162,13 @@ fn put_batch<R: Rows>(
     requires batch { (rest : List (List ℕ)) × (drop from texts.now ≡ batch.now ++ rest) }
     requires ready { IfOk ready.now (λ r. ArePrepared batch.now r.0.items r.1) }
     ensures added { (heads : ℕ) (chain blocks_before : Chain) → R.tells
-        → IsAdding heads chain nodes.now texts.now from (tables_in t.old) blocks_before
+        → IsAdding heads chain nodes.now texts.now from (with_edits t.old) blocks_before
         → OnOk result ((all : Chain)
-        × IsAdding heads chain nodes.now texts.now (from + length batch.now) (tables_in t.new) all) }
-    ensures more { OnOk result (length (tables_in t.new Table.Blocks)
-        ≡ length (tables_in t.old Table.Blocks) + length batch.now) }
+        × IsAdding heads chain nodes.now texts.now (from + length batch.now) (with_edits t.new) all) }
+    ensures more { OnOk result (length (with_edits t.new Table.Blocks)
+        ≡ length (with_edits t.old Table.Blocks) + length batch.now) }
     ensures first_fault { (heads : ℕ) (chain blocks_before : Chain) → R.tells
-        → IsAdding heads chain nodes.now texts.now from (tables_in t.old) blocks_before
+        → IsAdding heads chain nodes.now texts.now from (with_edits t.old) blocks_before
         → IfErr result (λ e. IsOwn e ⊎ FaultInAt chain nodes.now texts.now e) }
     ensures edits { EditsRows MoveFault.DiskFailed t.old t.new result }
     ensures no_archive { IfErr result (λ e. e ≢ MoveFault.ArchiveFailed) }
@@ -209,12 +209,12 @@ pub(crate) fn add_all<W: Threads + Sync, R: Rows, P: Pace + Sync>(
     requires live { R.is_live t.old.rows.now }
     requires nodes { AllByRecursion IsNode nodes.now }
     requires of { AreOf nodes.now texts.now }
-    ensures added { (heads : ℕ) (chain : Chain) → R.tells → AreRowsOf heads (tables_in t.old) chain
+    ensures added { (heads : ℕ) (chain : Chain) → R.tells → AreRowsOf heads (with_edits t.old) chain
         → AreLinked (tip chain) nodes.now → OnOk result ((blocks : Chain)
-        × AreAfter heads chain nodes.now texts.now (tables_in t.new) blocks) }
-    ensures more { OnOk result (length (tables_in t.new Table.Blocks)
-        ≡ length (tables_in t.old Table.Blocks) + length nodes.now) }
-    ensures first_fault { (heads : ℕ) (chain : Chain) → R.tells → AreRowsOf heads (tables_in t.old) chain
+        × AreAfter heads chain nodes.now texts.now (with_edits t.new) blocks) }
+    ensures more { OnOk result (length (with_edits t.new Table.Blocks)
+        ≡ length (with_edits t.old Table.Blocks) + length nodes.now) }
+    ensures first_fault { (heads : ℕ) (chain : Chain) → R.tells → AreRowsOf heads (with_edits t.old) chain
         → AreLinked (tip chain) nodes.now
         → IfErr result (λ e. IsOwn e ⊎ FaultInAt chain nodes.now texts.now e) }
     ensures edits { EditsRows MoveFault.DiskFailed t.old t.new result }

@@ -7,7 +7,7 @@ ghost use Rattle.el_model.specs.Keeping.{Either};
 ghost use Rattle.el_model.specs.Queries.{tip_of};
 ghost use Rattle.el_outside.specs.Counts.{CountsOnly};
 ghost use Rattle.el_outside.specs.Moments.{LeavesOnly};
-ghost use Rattle.el_rows.specs.Transaction.{tables_in, ReadsRows, EditsRows, WasRead};
+ghost use Rattle.el_rows.specs.Transaction.{with_edits, ReadsRows, EditsRows, WasRead};
 ghost use Rattle.el_row_formats.specs.declared.table.Table.{Table};
 ghost use Rattle.el_index.specs.Means.{AreRowsOf, Means};
 ghost use Rattle.el_index.specs.within.Adding.{AreMoved, FliesTo, IsOwn};
@@ -40,13 +40,13 @@ fn edit<W: Threads + Sync, R: Rows, P: Pace + Sync>(
     requires plan { IsPlan plan.now }
     requires of { AreOf plan.now.forward texts.now }
     requires none { touched.old ≡ [] }
-    ensures moved { (heads : ℕ) (chain : Chain) → R.tells → AreRowsOf heads (tables_in t.old) chain
+    ensures moved { (heads : ℕ) (chain : Chain) → R.tells → AreRowsOf heads (with_edits t.old) chain
         → FitsChain plan.now chain → OnOk result ((blocks : Chain)
-        × AreMoved heads plan.now chain texts.now touched.new (tables_in t.new) blocks) }
+        × AreMoved heads plan.now chain texts.now touched.new (with_edits t.new) blocks) }
     // Over any rows the number of blocks goes by the plan.
-    ensures top { OnOk result (length (tables_in t.new Table.Blocks)
-        ≡ (length (tables_in t.old Table.Blocks) - plan.now.back) + length plan.now.forward) }
-    ensures first_fault { (heads : ℕ) (chain : Chain) → R.tells → AreRowsOf heads (tables_in t.old) chain
+    ensures top { OnOk result (length (with_edits t.new Table.Blocks)
+        ≡ (length (with_edits t.old Table.Blocks) - plan.now.back) + length plan.now.forward) }
+    ensures first_fault { (heads : ℕ) (chain : Chain) → R.tells → AreRowsOf heads (with_edits t.old) chain
         → FitsChain plan.now chain → IfErr result (λ e. IsOwn e
         ⊎ FaultInAt (shorter plan.now.back chain) plan.now.forward texts.now e) }
     ensures edits { EditsRows MoveFault.DiskFailed t.old t.new result }
@@ -67,7 +67,7 @@ fn hash_after<R: Rows>(t: &mut Txn<'_, R>, nodes: &[Node]) -> Result<Option<Hash
     requires live { R.is_live t.old.rows.now }
     ensures last { IfOk result (λ hash. nodes.now ≢ []
         → hash ≡ Some (hash_of_last zero_hash nodes.now)) }
-    ensures tip { (heads : ℕ) (chain : Chain) → R.tells → AreRowsOf heads (tables_in t.old) chain
+    ensures tip { (heads : ℕ) (chain : Chain) → R.tells → AreRowsOf heads (with_edits t.old) chain
         → nodes.now ≡ [] → IfOk result (λ hash. hash ≡ tip_of chain) }
     ensures read { ReadsRows MoveFault.DiskFailed t.old t.new result }
     ensures device { IfErr result (λ e. e ≡ MoveFault.DiskFailed) }

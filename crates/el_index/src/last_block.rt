@@ -3,7 +3,7 @@ ghost use Rattle.std.specs.Prelude.{◌≡◌, ◌≤◌, ◌+◌, ℕ, length, 
 ghost use Rattle.el_chain.specs.Chains.{Chain};
 ghost use Rattle.el_model.specs.Queries.{tip_of};
 ghost use Rattle.el_outside.specs.Counts.{HasCause};
-ghost use Rattle.el_rows.specs.Transaction.{tables_in, reads_in, disk_failed, ReadsRows, WasRead};
+ghost use Rattle.el_rows.specs.Transaction.{with_edits, reads_in, disk_failed, ReadsRows, WasRead};
 ghost use Rattle.el_row_formats.specs.declared.table.Table.{Table};
 ghost use Rattle.el_index.specs.Means.{AreRowsOf};
 
@@ -18,7 +18,7 @@ use std::alloc::Global;
 // The hash of the last block, by its row; None exactly for no blocks.
 pub(crate) fn last_hash<R: Rows>(t: &mut Txn<'_, R>) -> Result<Option<Hash32>, DiskFailed>
     requires live { R.is_live t.old.rows.now }
-    ensures last { (heads : ℕ) (chain : Chain) → R.tells → AreRowsOf heads (tables_in t.old) chain
+    ensures last { (heads : ℕ) (chain : Chain) → R.tells → AreRowsOf heads (with_edits t.old) chain
         → IfOk result (λ hash. hash ≡ tip_of chain) }
     ensures read { ReadsRows disk_failed t.old t.new result }
     ensures rows { reads_in t.new ≤ reads_in t.old + 1 }

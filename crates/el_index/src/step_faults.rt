@@ -8,7 +8,7 @@ ghost use Rattle.el_chain.specs.Coins.{coins};
 ghost use Rattle.el_chain.specs.Headers.{same_hash};
 ghost use Rattle.el_chain.specs.Touches.{touches_any};
 ghost use Rattle.el_row_formats.specs.Tables.{Tables};
-ghost use Rattle.el_rows.specs.Transaction.{tables_in, ReadsRows, EditsRows};
+ghost use Rattle.el_rows.specs.Transaction.{with_edits, ReadsRows, EditsRows};
 ghost use Rattle.el_row_formats.specs.declared.table.Table.{Table};
 ghost use Rattle.el_schema.specs.Standing.{StandWith, StandFor};
 ghost use Rattle.el_index.specs.within.Adding.{AreAdded, IsOwn};
@@ -35,7 +35,7 @@ fn step_fault(fault: QueryFault) -> MoveFault
 pub(crate) fn touch<R: Rows>(t: &mut Txn<'_, R>, touched: &mut Touched) -> Result<(), MoveFault>
     requires live { R.is_live t.old.rows.now }
     ensures touched { (chain : Chain) (b : shape.Placed) → R.tells
-        → StandFor (tables_in t.old) (chain ++ b ∷ [])
+        → StandFor (with_edits t.old) (chain ++ b ∷ [])
         → OnOk result (AreAdded chain (b ∷ []) touched.old touched.new) }
     ensures read { ReadsRows MoveFault.DiskFailed t.old t.new result }
     ensures own { IfErr result IsOwn }
@@ -56,7 +56,7 @@ pub(crate) fn touch_all<R: Rows>(
 ) -> Result<(), MoveFault>
     requires live { R.is_live t.old.rows.now }
     ensures touched { (base bs : Chain) (before : Tables) (s : hash.Hash32) → R.tells
-        → StandFor (tables_in t.old) (base ++ bs) → StandFor before base
+        → StandFor (with_edits t.old) (base ++ bs) → StandFor before base
         → first_tx ≡ length (before Table.Txs) → first_entry ≡ length (before Table.Entries)
         → OnOk result (list_any (same_hash s) touched.new
         ≡ (list_any (same_hash s) touched.old || touches_any s.0 (coins base) bs)) }
@@ -73,10 +73,10 @@ pub(crate) fn touch_all<R: Rows>(
 pub(crate) fn undo<R: Rows>(t: &mut Txn<'_, R>) -> Result<(), MoveFault>
     requires live { R.is_live t.old.rows.now }
     ensures undone { (heads : ℕ) (chain : Chain) (b : shape.Placed) → R.tells
-        → StandWith heads (tables_in t.old) (chain ++ b ∷ [])
-        → OnOk result (StandWith heads (tables_in t.new) chain) }
-    ensures fewer { OnOk result (length (tables_in t.new Table.Blocks)
-        ≡ length (tables_in t.old Table.Blocks) - 1) }
+        → StandWith heads (with_edits t.old) (chain ++ b ∷ [])
+        → OnOk result (StandWith heads (with_edits t.new) chain) }
+    ensures fewer { OnOk result (length (with_edits t.new Table.Blocks)
+        ≡ length (with_edits t.old Table.Blocks) - 1) }
     ensures edits { EditsRows MoveFault.DiskFailed t.old t.new result }
     ensures own { IfErr result IsOwn }
 {

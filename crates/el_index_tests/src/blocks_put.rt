@@ -2,7 +2,7 @@
 ghost use Rattle.std.specs.Prelude.{◌≡◌, ◌≤◌, ◌∷◌, [], length, IfOk};
 ghost use Rattle.std.specs.List.{AllByRecursion};
 ghost use Rattle.el_tx.specs.Encoding.{HasEncoding, max_money};
-ghost use Rattle.el_gen.specs.Generated.{given};
+ghost use Rattle.el_gen.specs.Generated.{total_paid};
 ghost use Rattle.el_block.specs.Blocks.{HasBlockEncoding};
 ghost use Rattle.el_block.specs.declared.block.Block as shape;
 ghost use Rattle.el_prepare.specs.Prepared.{prepared};
@@ -74,7 +74,7 @@ fn spending_block(
 ) -> Result<Vec<Tx>, Fail>
     requires inputs { 1 ≤ length from.now }
     requires outputs { 1 ≤ length to.now }
-    requires money { given to.now ≤ max_money }
+    requires money { total_paid to.now ≤ max_money }
     ensures { IfOk result (λ v. (1 ≤ length v.items) × AllByRecursion HasEncoding v.items) }
 {
     let mut txs = coinbase_block(alloc, height)?;
@@ -109,7 +109,7 @@ pub fn put_spending<R: Rows>(
     requires live { R.is_live txn.old.rows.now }
     requires inputs { 1 ≤ length from.now }
     requires outputs { 1 ≤ length to.now }
-    requires money { given to.now ≤ max_money }
+    requires money { total_paid to.now ≤ max_money }
     ensures { txn.new.rows.ghost_name ≡ txn.old.rows.ghost_name }
 {
     let txs = spending_block(alloc, 1, from, to)?;

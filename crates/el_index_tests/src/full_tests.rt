@@ -1,7 +1,7 @@
 // A block over stores that are full, and over one whose device fails.
 ghost use Rattle.std.specs.Prelude.{◌≡◌, ◌≤◌, length};
 ghost use Rattle.el_tx.specs.Encoding.{max_money};
-ghost use Rattle.el_gen.specs.Generated.{given};
+ghost use Rattle.el_gen.specs.Generated.{total_paid};
 
 use crate::blocks_put::{coin_of, put_coinbase, put_spending};
 use crate::failing_rows::FailingRows;
@@ -23,7 +23,7 @@ fn answer(
 ) -> Result<Result<(), ConnectFault>, Fail>
     requires inputs { 1 ≤ length from.now }
     requires outputs { 1 ≤ length to.now }
-    requires money { given to.now ≤ max_money }
+    requires money { total_paid to.now ≤ max_money }
 {
     let mut txn = Txn::new(alloc, &mut rows);
     put_spending(alloc, &mut txn, from, to)

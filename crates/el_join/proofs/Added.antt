@@ -20,15 +20,15 @@ use Rattle.el_mempool.specs.declared.fault.PoolFault.TheVariants as refusal
 use Rattle.el_kept.specs.declared.table.Table.{Table}
 use Rattle.el_mempool.specs.Sift.{named, any_takes}
 use Rattle.el_mempool.specs.Refusals.{where_so, missing, spender_of, conflict, known_refusal, coin_refusal, room_refusal, tx_refusal}
-use Rattle.el_mempool.specs.Standing.{source_at, sources, kept_tx, StandsFor, is_at_script}
+use Rattle.el_mempool.specs.Standing.{source_at, sources, kept_tx, KeptStandFor, is_at_script}
 use Rattle.el_mempool.specs.Adding.{Joined}
 use Rattle.el_mempool.specs.declared.fees.FeeChange.{FeeChange}
 use Rattle.el_mempool.specs.Fees.{fee_change, AreFeeChanges}
-use Rattle.el_kept.specs.Tables.{standing, by_txid, IsTable}
+use Rattle.el_kept.specs.Tables.{undropped, by_txid, HasEntries}
 use Rattle.el_kept.proofs.Lookups.{is_over, none_of, takers_are}
 use Rattle.el_join.specs.within.Tables.{Joins}
 use Rattle.el_kept.proofs.Entries.{entry_found}
-use Rattle.el_kept.specs.Named.{IsOver}
+use Rattle.el_kept.specs.Named.{IsTableOver}
 use Rattle.el_mempool.proofs.Joining.{both_none, is_free, stands_more}
 use Rattle.el_mempool.proofs.Arrivals.{arrival_changes}
 use Rattle.el_mempool.proofs.FeeChanges.{changes_are, one_more}
@@ -38,7 +38,7 @@ no_spender f None h = refl
 no_spender f (Some t) h = absurd (cc)
 
 -- nobody takes what the inputs take
-free_inputs : (table : Table) (chain : Chain) (kept : List Tx) (id : Hash32) (is : List TxIn) → IsOver table chain kept → conflict kept id is ≡ None
+free_inputs : (table : Table) (chain : Chain) (kept : List Tx) (id : Hash32) (is : List TxIn) → IsTableOver table chain kept → conflict kept id is ≡ None
     → AllByRecursion (λ (s : Source). get same_outpoint table.spenders s.from ≡ None) (sources chain kept is)
 free_inputs table chain kept id [] h c = tt
 free_inputs table chain kept id (i ∷ is) h c =
@@ -61,18 +61,18 @@ no_conflict limits chain kept t h =
 -- what the call that put it in says
 abbrev pub PutsIn : Table → KeptTx → List KeptTx → Type 0
 PutsIn table k new =
-    by_txid k.txid (standing table.kept.entries) ≡ None → AllByRecursion (λ (s : Source). get same_outpoint table.spenders s.from ≡ None) k.inputs → new ≡ standing table.kept.entries ++ k ∷ []
+    by_txid k.txid (undropped table.kept.entries) ≡ None → AllByRecursion (λ (s : Source). get same_outpoint table.spenders s.from ≡ None) k.inputs → new ≡ undropped table.kept.entries ++ k ∷ []
 
 -- the entry stands after the others
 pub stands_last : (limits : PoolLimits) (table : Table) (chain : Chain) (kept : List Tx) (bytes : List ℕ) (k : KeptTx) (new : List KeptTx)
-    → IsTable table (standing table.kept.entries) → StandsFor (standing table.kept.entries) chain kept → Joins limits chain kept bytes k → PutsIn table k new
-    → new ≡ standing table.kept.entries ++ k ∷ []
+    → HasEntries table (undropped table.kept.entries) → KeptStandFor (undropped table.kept.entries) chain kept → Joins limits chain kept bytes k → PutsIn table k new
+    → new ≡ undropped table.kept.entries ++ k ∷ []
 stands_last limits table chain kept bytes k new t h j puts =
     let free = is_free limits chain kept j.tx j.free in
     let over = is_over table chain kept t h in
     let id_is : k.txid ≡ txid j.tx = ap (λ (x : KeptTx). x.txid) j.is in
-    let unknown : by_txid k.txid (standing table.kept.entries) ≡ None =
-    ap (λ x. by_txid x (standing table.kept.entries)) id_is ∙ ap (by_txid (txid j.tx)) h.are
+    let unknown : by_txid k.txid (undropped table.kept.entries) ≡ None =
+    ap (λ x. by_txid x (undropped table.kept.entries)) id_is ∙ ap (by_txid (txid j.tx)) h.are
     ∙ none_of (by_txid (txid j.tx) (map (kept_tx chain kept) kept)) (entry_found (txid j.tx) chain kept kept ∙ free.new) in
     let untaken : AllByRecursion (λ (s : Source). get same_outpoint table.spenders s.from ≡ None) k.inputs =
     taken_by (sym (ap (λ (x : KeptTx). x.inputs) j.is)) (free_inputs table chain kept (txid j.tx) j.tx.inputs over (no_conflict limits chain kept j.tx j.free)) in
@@ -83,24 +83,24 @@ stands_last limits table chain kept bytes k new t h j puts =
 
 -- what comes of it for the fees
 pub fees_joined : (limits : PoolLimits) (table : Table) (chain : Chain) (kept : List Tx) (bytes : List ℕ) (k : KeptTx) (new : List KeptTx) (changes : List FeeChange)
-    → IsTable table (standing table.kept.entries) → StandsFor (standing table.kept.entries) chain kept → Joins limits chain kept bytes k → PutsIn table k new
-    → changes ≡ fee_change true k ∷ [] → AreFeeChanges (standing table.kept.entries) new changes
+    → HasEntries table (undropped table.kept.entries) → KeptStandFor (undropped table.kept.entries) chain kept → Joins limits chain kept bytes k → PutsIn table k new
+    → changes ≡ fee_change true k ∷ [] → AreFeeChanges (undropped table.kept.entries) new changes
 fees_joined limits table chain kept bytes k new changes t h j puts are =
-    subst (λ (l : List KeptTx). AreFeeChanges (standing table.kept.entries) l changes) (sym (stands_last limits table chain kept bytes k new t h j puts))
-    (changes_are (standing table.kept.entries) (standing table.kept.entries ++ k ∷ []) changes (are ∙ sym (one_more (standing table.kept.entries) k)))
+    subst (λ (l : List KeptTx). AreFeeChanges (undropped table.kept.entries) l changes) (sym (stands_last limits table chain kept bytes k new t h j puts))
+    (changes_are (undropped table.kept.entries) (undropped table.kept.entries ++ k ∷ []) changes (are ∙ sym (one_more (undropped table.kept.entries) k)))
 
 pub joined_is : (limits : PoolLimits) (table : Table) (chain : Chain) (kept : List Tx) (bytes : List ℕ) (k : KeptTx) (new : List KeptTx) (id : Hash32) (scripts : List Hash32)
-    → IsTable table (standing table.kept.entries) → StandsFor (standing table.kept.entries) chain kept → Joins limits chain kept bytes k → PutsIn table k new → id ≡ k.txid
+    → HasEntries table (undropped table.kept.entries) → KeptStandFor (undropped table.kept.entries) chain kept → Joins limits chain kept bytes k → PutsIn table k new → id ≡ k.txid
     → ((s : Hash32) → list_any (same_hash s) scripts ≡ is_at_script s.0 k) → AllDiffer scripts → Joined limits chain kept bytes new id scripts
 joined_is limits table chain kept bytes k new id scripts t h j puts same each once =
     let id_is : k.txid ≡ txid j.tx = ap (λ (x : KeptTx). x.txid) j.is in
-    let is_new : new ≡ standing table.kept.entries ++ kept_tx chain kept j.tx ∷ [] =
-    stands_last limits table chain kept bytes k new t h j puts ∙ ap (λ x. standing table.kept.entries ++ x ∷ []) j.is in
+    let is_new : new ≡ undropped table.kept.entries ++ kept_tx chain kept j.tx ∷ [] =
+    stands_last limits table chain kept bytes k new t h j puts ∙ ap (λ x. undropped table.kept.entries ++ x ∷ []) j.is in
     record {
       tx = j.tx;
       encoded = j.encoded;
       free = j.free;
       is_id = same ∙ id_is;
-      stands = rw is_new (stands_more limits (standing table.kept.entries) chain kept j.tx h j.free);
-      changed = arrival_changes limits (standing table.kept.entries) chain kept j.tx scripts h j.free once (λ s. each s ∙ ap (is_at_script s.0) j.is);
+      stands = rw is_new (stands_more limits (undropped table.kept.entries) chain kept j.tx h j.free);
+      changed = arrival_changes limits (undropped table.kept.entries) chain kept j.tx scripts h j.free once (λ s. each s ∙ ap (is_at_script s.0) j.is);
     }

@@ -21,14 +21,14 @@ use Rattle.el_mempool.specs.Sift.{coin_named, named}
 use Rattle.el_mempool.specs.Refusals.{missing}
 use Rattle.el_mempool.specs.Standing.{source_at, sources}
 use Rattle.el_kept.specs.declared.found.FoundOutput.{FoundOutput}
-use Rattle.el_kept.specs.Named.{found_by, IsOver, output_at}
+use Rattle.el_kept.specs.Named.{found_by, IsTableOver, kept_output}
 use Rattle.el_kept.proofs.Lookups.{output_is, unspent_of, held_found}
 use Rattle.el_join.specs.within.Tables.{is_output_at}
 
 abbrev LookedUp : Table → Outpoint → Option Held → Type 0
 LookedUp t o out = out ≡ option_and_then (λ (k : KeptTx). slice_get k.outputs o.index) (option_flatten (get same_hash t.kept o.txid))
 
-pub named_by : (t : Table) (chain : Chain) (kept : List Tx) (o : Outpoint) (out : Option Held) (found : Option FoundOutput) → IsOver t chain kept
+pub named_by : (t : Table) (chain : Chain) (kept : List Tx) (o : Outpoint) (out : Option Held) (found : Option FoundOutput) → IsTableOver t chain kept
     → LookedUp t o out → found ≡ found_by out (coin_named chain o) → option_map (λ (n : FoundOutput). n.held) found ≡ named chain kept o
 named_by t chain kept o out found h says is =
     held_found out chain kept o found (says ∙ output_is t chain kept o h) (unspent_of chain kept h.entries h.stands o) is
@@ -57,7 +57,7 @@ stops chain kept is n i found held lt item says none before =
     rw (left, gone) at before.1
 
 -- whether one of the inputs takes an output of a kept one, with one more
-pub any_more : (t : Table) (ss : List Source) (s : Source) (any b : Bool) → b ≡ is_some (output_at t s.from) → any ≡ list_any (is_output_at t) ss
+pub any_more : (t : Table) (ss : List Source) (s : Source) (any b : Bool) → b ≡ is_some (kept_output t s.from) → any ≡ list_any (is_output_at t) ss
     → (any || b) ≡ list_any (is_output_at t) (ss ++ s ∷ [])
 any_more t ss s any b is so_far =
     ap (λ a. a || b) so_far ∙ by (list_any (is_output_at t) ss) b

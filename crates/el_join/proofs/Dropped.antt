@@ -20,12 +20,12 @@ use Rattle.el_mempool.specs.declared.held.Held.{Held}
 use Rattle.el_mempool.specs.declared.held.KeptTx.{KeptTx}
 use Rattle.el_kept.specs.declared.table.Table.{Table}
 use Rattle.el_mempool.specs.Sift.{output_among, named, any_takes, is_confirmed, may_join, sift, other_than}
-use Rattle.el_mempool.specs.Unconfirmed.{concerns}
+use Rattle.el_mempool.specs.Unconfirmed.{concerns_script}
 use Rattle.el_mempool.specs.Refusals.{is_kept, spender_of}
-use Rattle.el_mempool.specs.Standing.{kept_tx, has_entry, StandsFor, AreChanged}
-use Rattle.el_kept.specs.Tables.{standing, by_txid, takes_from, IsTable}
-use Rattle.el_kept.specs.Named.{IsOver}
-use Rattle.el_kept.specs.Tables.{has, slot, slot_at_script, without}
+use Rattle.el_mempool.specs.Standing.{kept_tx, has_entry, KeptStandFor, AreChanged}
+use Rattle.el_kept.specs.Tables.{undropped, by_txid, takes_from, HasEntries}
+use Rattle.el_kept.specs.Named.{IsTableOver}
+use Rattle.el_kept.specs.Tables.{has, slot, slot_at_script, without_txids}
 use Rattle.el_join.specs.within.Going.{size, AreThere, Gathers}
 use Rattle.el_mempool.proofs.Sifting.{joins_of}
 use Rattle.el_mempool.proofs.Confirmed.{hash_self, hash_same, unconfirmed_none}
@@ -162,9 +162,9 @@ within_size (Some k) n h = by (slice_get_cases k.outputs n).1
     by (inl c) = c.1
     by (inr c) = absurd (true≢false (sym h ∙ ap is_some c.1))
 
-module _ (table : Table) (chain : Chain) (kept : List Tx) (id : Hash32) (ids : List Hash32) (is_table : IsTable table (standing table.kept.entries)) (stands : StandsFor (standing table.kept.entries) chain kept)
-    (there : is_some (by_txid id (standing table.kept.entries)) ≡ true) (gathers : Gathers (get same_outpoint table.spenders) (λ x. size (slot table x)) id [] ids) where
-  over : IsOver table chain kept
+module _ (table : Table) (chain : Chain) (kept : List Tx) (id : Hash32) (ids : List Hash32) (is_table : HasEntries table (undropped table.kept.entries)) (stands : KeptStandFor (undropped table.kept.entries) chain kept)
+    (there : is_some (by_txid id (undropped table.kept.entries)) ≡ true) (gathers : Gathers (get same_outpoint table.spenders) (λ x. size (slot table x)) id [] ids) where
+  over : IsTableOver table chain kept
   over = is_over table chain kept is_table stands
 
   fresh : AllByRecursion (λ (t : Tx). is_confirmed chain (txid t) ≡ false) kept
@@ -239,7 +239,7 @@ module _ (table : Table) (chain : Chain) (kept : List Tx) (id : Hash32) (ids : L
           → (is_gone_at chain (has ids) kept s t || list_any (is_gone_at chain (has ids) kept s) ts) ≡ true
       by true e is more =
           or_left (is_gone_at chain (has ids) kept s t) (list_any (is_gone_at chain (has ids) kept s) ts)
-          (and_from (has ids (txid t)) (concerns chain kept s.0 t) (ap (has ids) (sym (hash_same x (txid t) e)) ∙ h) (sym (entry_at chain kept s.0 t) ∙ is))
+          (and_from (has ids (txid t)) (concerns_script chain kept s.0 t) (ap (has ids) (sym (hash_same x (txid t) e)) ∙ h) (sym (entry_at chain kept s.0 t) ∙ is))
       by false e is more = or_right (is_gone_at chain (has ids) kept s t) (list_any (is_gone_at chain (has ids) kept s) ts) (more is)
 
   to_all : (s : Hash32) (xs : List Hash32) → AllByRecursion (λ x. has ids x ≡ true) xs → list_any (λ x. slot_at_script s.0 (slot table x)) xs ≡ true → list_any (is_gone_at chain (has ids) kept s) kept ≡ true
@@ -272,7 +272,7 @@ module _ (table : Table) (chain : Chain) (kept : List Tx) (id : Hash32) (ids : L
       by : (is_gone_at chain (has ids) kept s t ≡ true) ⊎ (list_any (is_gone_at chain (has ids) kept s) ts ≡ true)
           → (list_any (is_gone_at chain (has ids) kept s) ts ≡ true → list_any (λ x. slot_at_script s.0 (slot table x)) ids ≡ true) → list_any (λ x. slot_at_script s.0 (slot table x)) ids ≡ true
       by (inl e) more =
-          let parts = and_parts (has ids (txid t)) (concerns chain kept s.0 t) e in
+          let parts = and_parts (has ids (txid t)) (concerns_script chain kept s.0 t) e in
           any_of (λ x. slot_at_script s.0 (slot table x)) ids (txid t) parts.0 (ap (slot_at_script s.0) (slot_is (txid t) ∙ own.0) ∙ entry_at chain kept s.0 t ∙ parts.1)
       by (inr e) more = more e
 
@@ -281,9 +281,9 @@ module _ (table : Table) (chain : Chain) (kept : List Tx) (id : Hash32) (ids : L
       both_ways (list_any (λ x. slot_at_script s.0 (slot table x)) ids) (list_any (is_gone_at chain (has ids) kept s) kept) (to_all s ids (all_there [] ids))
       (from_all s kept (found_own kept (apart_from kept stands.once)))
 
-  pub drop_is : (scripts : List Hash32) (new : List KeptTx) → new ≡ without ids (standing table.kept.entries) → ((s : Hash32) → list_any (same_hash s) scripts ≡ list_any (λ x. slot_at_script s.0 (slot table x)) ids)
-      → AllDiffer scripts → StandsFor new chain (sift chain (other_than id kept)) × AreChanged chain kept chain (sift chain (other_than id kept)) scripts
+  pub drop_is : (scripts : List Hash32) (new : List KeptTx) → new ≡ without_txids ids (undropped table.kept.entries) → ((s : Hash32) → list_any (same_hash s) scripts ≡ list_any (λ x. slot_at_script s.0 (slot table x)) ids)
+      → AllDiffer scripts → KeptStandFor new chain (sift chain (other_than id kept)) × AreChanged chain kept chain (sift chain (other_than id kept)) scripts
   drop_is scripts new is each once = (
-    (rw is (stands_rest (standing table.kept.entries) chain (has ids) id kept stands unconfirmed dropped)),
-    drop_changes (standing table.kept.entries) chain (has ids) id kept scripts stands unconfirmed dropped once (λ s. each s ∙ scripts_are s),
+    (rw is (stands_rest (undropped table.kept.entries) chain (has ids) id kept stands unconfirmed dropped)),
+    drop_changes (undropped table.kept.entries) chain (has ids) id kept scripts stands unconfirmed dropped once (λ s. each s ∙ scripts_are s),
   )

@@ -14,14 +14,14 @@ use Rattle.el_chain.specs.Chains.{Chain}
 use Rattle.el_chain.specs.Headers.{same_hash}
 use Rattle.el_mempool.specs.declared.held.KeptTx.{KeptTx}
 use Rattle.el_mempool.specs.declared.fees.FeeChange.{FeeChange}
-use Rattle.el_mempool.specs.Standing.{kept_tx, StandsFor}
+use Rattle.el_mempool.specs.Standing.{kept_tx, KeptStandFor}
 use Rattle.el_mempool.specs.Fees.{fee_change, fee_changes, AreFeeChanges}
 use Rattle.el_mempool.proofs.Confirmed.{hash_same, hash_turned}
 use Rattle.el_mempool.proofs.Picked.{KeysApart}
 use Rattle.el_mempool.proofs.Changes.{apart_from}
 use Rattle.el_mempool.proofs.FeeChanges.{changes_are, none_more, some_go}
 use Rattle.el_kept.specs.declared.table.Table.{Table}
-use Rattle.el_kept.specs.Tables.{standing, by_txid, has, without, slot, IsTable}
+use Rattle.el_kept.specs.Tables.{undropped, by_txid, has, without_txids, slot, HasEntries}
 use Rattle.el_kept.proofs.Entries.{found_standing}
 use Rattle.el_join.specs.within.Going.{gone_change}
 
@@ -98,13 +98,13 @@ changes_found ks (id ∷ ids) =
     ∙ ap (λ (l : List FeeChange). l ++ map (fee_change false) (flat_map (λ (x : Hash32). option_to_list (by_txid x ks)) ids)) (change_of (by_txid id ks))
     ∙ ap (λ (l : List FeeChange). gone_change (by_txid id ks) ++ l) (changes_found ks ids)
 
-found_in : (table : Table) (ids : List Hash32) → IsTable table (standing table.kept.entries)
-    → flat_map (λ (id : Hash32). gone_change (slot table id)) ids ≡ flat_map (λ (id : Hash32). gone_change (by_txid id (standing table.kept.entries))) ids
+found_in : (table : Table) (ids : List Hash32) → HasEntries table (undropped table.kept.entries)
+    → flat_map (λ (id : Hash32). gone_change (slot table id)) ids ≡ flat_map (λ (id : Hash32). gone_change (by_txid id (undropped table.kept.entries))) ids
 found_in table [] h = refl
 found_in table (id ∷ ids) h =
     ap (λ (o : Option KeptTx). gone_change o ++ flat_map (λ (x : Hash32). gone_change (slot table x)) ids)
     (found_standing id table.kept.entries h.right h.once)
-    ∙ ap (λ (l : List FeeChange). gone_change (by_txid id (standing table.kept.entries)) ++ l) (found_in table ids h)
+    ∙ ap (λ (l : List FeeChange). gone_change (by_txid id (undropped table.kept.entries)) ++ l) (found_in table ids h)
 
 -- ---- of kept transactions
 
@@ -118,17 +118,17 @@ entries_apart chain all [] h = tt
 entries_apart chain all (t ∷ ts) h = (mapped chain all t ts h.0, entries_apart chain all ts h.1)
 
 pub changes_gone : (table : Table) (chain : Chain) (kept : List Tx) (ids : List Hash32) (new : List KeptTx) (changes : List FeeChange)
-    → IsTable table (standing table.kept.entries) → StandsFor (standing table.kept.entries) chain kept → AllDiffer ids
-    → new ≡ without ids (standing table.kept.entries) → changes ≡ flat_map (λ (id : Hash32). gone_change (slot table id)) ids
-    → AreFeeChanges (standing table.kept.entries) new changes
+    → HasEntries table (undropped table.kept.entries) → KeptStandFor (undropped table.kept.entries) chain kept → AllDiffer ids
+    → new ≡ without_txids ids (undropped table.kept.entries) → changes ≡ flat_map (λ (id : Hash32). gone_change (slot table id)) ids
+    → AreFeeChanges (undropped table.kept.entries) new changes
 changes_gone table chain kept ids new changes h stands differ are told =
-    let ks = standing table.kept.entries in
+    let ks = undropped table.kept.entries in
     let apart : Apart ks = subst Apart (sym stands.are) (entries_apart chain kept kept (apart_from kept stands.once)) in
     let gone = IsPermutation-map (fee_change false) _ _ (found_all ks ids differ apart) in
-    let here : IsPermutation (fee_changes ks (without ids ks)) (map (fee_change false) (flat_map (λ (id : Hash32). option_to_list (by_txid id ks)) ids)) =
+    let here : IsPermutation (fee_changes ks (without_txids ids ks)) (map (fee_change false) (flat_map (λ (id : Hash32). option_to_list (by_txid id ks)) ids)) =
     subst (λ (l : List FeeChange). IsPermutation l (map (fee_change false) (flat_map (λ (id : Hash32). option_to_list (by_txid id ks)) ids))) (sym (some_go (has ids) ks)) gone in
     subst (λ (l : List KeptTx). IsPermutation (fee_changes ks l) changes) (sym are)
-    (subst (λ (l : List FeeChange). IsPermutation (fee_changes ks (without ids ks)) l)
+    (subst (λ (l : List FeeChange). IsPermutation (fee_changes ks (without_txids ids ks)) l)
     (changes_found ks ids ∙ sym (told ∙ found_in table ids h)) here)
 
 pub changes_none : (ks : List KeptTx) (changes : List FeeChange) → changes ≡ [] → AreFeeChanges ks ks changes

@@ -11,7 +11,7 @@ use Rattle.el_tx.specs.declared.types.Outpoint.{Outpoint}
 use Rattle.el_chain.specs.Headers.{same_hash}
 use Rattle.el_chain.proofs.TouchLemmas.{any_added}
 use Rattle.el_kept.specs.Tables.{has}
-use Rattle.el_join.specs.within.Going.{with_taker, output, AreThere, Grown, Gathers}
+use Rattle.el_join.specs.within.Going.{with_taker, outpoint_numbered, AreThere, TakersAdded, Gathers}
 use Rattle.el_mempool.proofs.Confirmed.{hash_self, hash_same}
 
 some_hash : (x y : Hash32) → Some x ≡ Some y → x ≡ y
@@ -22,7 +22,7 @@ none_hash x h = cc
 
 -- ---- the takers of one transaction's outputs
 
-pub grown_none : (taker : Outpoint → Option Hash32) (id : Hash32) (ids : List Hash32) → Grown taker id 0 ids ids
+pub grown_none : (taker : Outpoint → Option Hash32) (id : Hash32) (ids : List Hash32) → TakersAdded taker id 0 ids ids
 grown_none taker id ids = record {
   more = [];
   is = sym (append-nil ids);
@@ -55,22 +55,22 @@ step_new : (mid new : List Hash32) (t : Option Hash32) → new ≡ with_taker t 
 step_new mid new None is x h = absurd (none_hash x h)
 step_new mid new (Some y) is x h = any_added x y mid new is ∙ or_right (has mid x) (same_hash x y) (hash_self x y (sym (some_hash y x h)))
 
-pub grown_more : (taker : Outpoint → Option Hash32) (id : Hash32) (n : ℕ) (old mid new : List Hash32) → Grown taker id n old mid → new ≡ with_taker (taker (output id n)) mid → Grown taker id (n + 1) old new
+pub grown_more : (taker : Outpoint → Option Hash32) (id : Hash32) (n : ℕ) (old mid new : List Hash32) → TakersAdded taker id n old mid → new ≡ with_taker (taker (outpoint_numbered id n)) mid → TakersAdded taker id (n + 1) old new
 grown_more taker id n old mid new g is =
-    let whole = step_more old mid new (taker (output id n)) (g.more, g.is) is in
+    let whole = step_more old mid new (taker (outpoint_numbered id n)) (g.more, g.is) is in
     record {
       more = whole.0;
       is = whole.1;
-      comes = λ x h. came x (step_has mid new (taker (output id n)) is x h);
+      comes = λ x h. came x (step_has mid new (taker (outpoint_numbered id n)) is x h);
       there = λ i lt x t. here i lt x t;
     }
   where
-    came : (x : Hash32) → (has mid x ≡ true) ⊎ (taker (output id n) ≡ Some x) → (has old x ≡ true) ⊎ ((o : Outpoint) × (o.txid ≡ id) × (taker o ≡ Some x))
+    came : (x : Hash32) → (has mid x ≡ true) ⊎ (taker (outpoint_numbered id n) ≡ Some x) → (has old x ≡ true) ⊎ ((o : Outpoint) × (o.txid ≡ id) × (taker o ≡ Some x))
     came x (inl h) = g.comes x h
-    came x (inr t) = inr (output id n, refl, t)
+    came x (inr t) = inr (outpoint_numbered id n, refl, t)
 
-    at_last : (i : ℕ) → i ≡ n → (x : Hash32) → taker (output id i) ≡ Some x → has new x ≡ true
-    at_last i e x t = step_new mid new (taker (output id n)) is x (ap (λ k. taker (output id k)) (sym e) ∙ t)
+    at_last : (i : ℕ) → i ≡ n → (x : Hash32) → taker (outpoint_numbered id i) ≡ Some x → has new x ≡ true
+    at_last i e x t = step_new mid new (taker (outpoint_numbered id n)) is x (ap (λ k. taker (outpoint_numbered id k)) (sym e) ∙ t)
 
     two : (i : ℕ) → i < n + 1 → (i < n) ⊎ (i ≡ n)
     two i lt = split (cases_lt i n)
@@ -79,11 +79,11 @@ grown_more taker id n old mid new g is =
         split (inl a) = inl a
         split (inr b) = inr (omega (arith, b, lt))
 
-    here : (i : ℕ) → i < n + 1 → (x : Hash32) → taker (output id i) ≡ Some x → has new x ≡ true
+    here : (i : ℕ) → i < n + 1 → (x : Hash32) → taker (outpoint_numbered id i) ≡ Some x → has new x ≡ true
     here i lt x t = by (two i lt)
       where
         by : (i < n) ⊎ (i ≡ n) → has new x ≡ true
-        by (inl a) = step_stays mid new (taker (output id n)) is x (g.there i a x t)
+        by (inl a) = step_stays mid new (taker (outpoint_numbered id n)) is x (g.there i a x t)
         by (inr e) = at_last i e x t
 
 -- ---- one transaction after the other
@@ -116,7 +116,7 @@ item_left n ids id is = by (slice_get_cases ids n).1
     by (inr h) = absurd (none_hash id (sym h.1 ∙ is))
 
 pub gathers_more : (taker : Outpoint → Option Hash32) (sizes : Hash32 → ℕ) (start id : Hash32) (n : ℕ) (ids new : List Hash32) → Gathers taker sizes start (drop n ids) ids → slice_get ids n ≡ Some id
-    → Grown taker id (sizes id) ids new → Gathers taker sizes start (drop (n + 1) new) new
+    → TakersAdded taker id (sizes id) ids new → Gathers taker sizes start (drop (n + 1) new) new
 gathers_more taker sizes start id n ids new g item w =
     record {
       first = stays start g.first;

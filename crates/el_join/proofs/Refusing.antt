@@ -26,20 +26,20 @@ use Rattle.el_mempool.specs.Unconfirmed.{flag, fee}
 use Rattle.el_kept.proofs.Lookups.{output_is, takers_are, confirmed_is, sources_sum, fee_is, any_from}
 use Rattle.el_mempool.proofs.Joining.{both_none, names_all}
 use Rattle.el_mempool.specs.Sift.{output_among, held_by, total_held, any_takes, is_confirmed, output_held}
-use Rattle.el_mempool.specs.Refusals.{is_kept, spender_of, conflict, where_so, total_bytes, room_refusal, has_coinbase_form, known_refusal, coin_refusal, missing, tx_refusal, IsRefused}
+use Rattle.el_mempool.specs.Refusals.{is_kept, spender_of, conflict, where_so, total_bytes, room_refusal, has_coinbase_form, known_refusal, coin_refusal, missing, tx_refusal, IsTxRefused}
 use Rattle.el_mempool.specs.Standing.{sources, kept_tx}
 use Rattle.el_kept.specs.Tables.{by_txid}
-use Rattle.el_kept.specs.Named.{total_sources, output_at, IsOver}
+use Rattle.el_kept.specs.Named.{total_sources, kept_output, IsTableOver}
 use Rattle.el_join.specs.within.Tables.{conflict_by, flag_by, room_by}
 use Rattle.el_kept.proofs.Entries.{found_standing, entry_found}
 use Rattle.el_mempool.proofs.Named.{AreNamed}
 
 -- a transaction with the txid is kept
-pub known_is : (t : Table) (chain : Chain) (kept : List Tx) (id : Hash32) → IsOver t chain kept → is_some (option_flatten (get same_hash t.kept id)) ≡ is_kept id kept
+pub known_is : (t : Table) (chain : Chain) (kept : List Tx) (id : Hash32) → IsTableOver t chain kept → is_some (option_flatten (get same_hash t.kept id)) ≡ is_kept id kept
 known_is t chain kept id h =
     ap is_some (found_standing id t.kept.entries h.table.right h.table.once ∙ ap (by_txid id) (h.table.are ∙ h.stands.are)) ∙ entry_found id chain kept kept
 
-pub conflict_is : (t : Table) (chain : Chain) (kept : List Tx) (id : Hash32) (is : List TxIn) → IsOver t chain kept → conflict_by (get same_outpoint t.spenders) id is ≡ conflict kept id is
+pub conflict_is : (t : Table) (chain : Chain) (kept : List Tx) (id : Hash32) (is : List TxIn) → IsTableOver t chain kept → conflict_by (get same_outpoint t.spenders) id is ≡ conflict kept id is
 conflict_is t chain kept id [] h = refl
 conflict_is t chain kept id (i ∷ is) h =
     ap (λ x. option_or (option_map (λ b. refusal.Conflict i.from b) x) (option_or (where_so (any_takes i.from is) (refusal.Conflict i.from id)) (conflict_by (get same_outpoint t.spenders) id is))) (takers_are t chain kept i.from h)
@@ -62,7 +62,7 @@ pub encoded_full : (bytes : List ℕ) (t : Tx) → Encodes bytes t → full_enco
 encoded_full bytes t (stripped lawful none is) = rw none (sym is)
 encoded_full bytes t (with_witness lawful some is) = rw some (sym is)
 
-pub room_is : (table : Table) (limits : PoolLimits) (chain : Chain) (kept : List Tx) (t : Tx) (bytes : List ℕ) (ss : List Source) (size : ℕ) → IsOver table chain kept → Encodes bytes t
+pub room_is : (table : Table) (limits : PoolLimits) (chain : Chain) (kept : List Tx) (t : Tx) (bytes : List ℕ) (ss : List Source) (size : ℕ) → IsTableOver table chain kept → Encodes bytes t
     → ss ≡ sources chain kept t.inputs → size ≡ length bytes → room_by limits table.count table.bytes ss t.outputs size ≡ room_refusal limits chain kept t
 room_is table limits chain kept t bytes ss size h enc are long =
     let count : table.count ≡ length kept = h.table.count ∙ ap length h.stands.are ∙ length-map kept (kept_tx chain kept) in
@@ -82,7 +82,7 @@ second_known chain kept t id found is form says some =
     let there : is_confirmed chain (txid t) ≡ true = ap (is_confirmed chain) (sym is) ∙ sym (confirmed_is chain id) ∙ ap is_some (sym says) ∙ some in
     rw (form, there) refl
 
-pub third_known : (table : Table) (chain : Chain) (kept : List Tx) (t : Tx) (id : Hash32) (found : Option Spot) (b : Bool) → IsOver table chain kept → id ≡ txid t → has_coinbase_form t ≡ false → found ≡ find_tx chain id
+pub third_known : (table : Table) (chain : Chain) (kept : List Tx) (t : Tx) (id : Hash32) (found : Option Spot) (b : Bool) → IsTableOver table chain kept → id ≡ txid t → has_coinbase_form t ≡ false → found ≡ find_tx chain id
     → is_some found ≡ false → is_some (option_flatten (get same_hash table.kept id)) ≡ b → cond b (Some refusal.Known) None ≡ known_refusal chain kept t
 third_known table chain kept t id found b h is form says none last =
     let apart : is_confirmed chain (txid t) ≡ false = ap (is_confirmed chain) (sym is) ∙ sym (confirmed_is chain id) ∙ ap is_some (sym says) ∙ none in
@@ -91,7 +91,7 @@ third_known table chain kept t id found b h is form says none last =
 
 -- ---- the inputs, and all together
 
-pub coins_are : (table : Table) (chain : Chain) (kept : List Tx) (t : Tx) (id : Hash32) (is : List TxIn) (x y : Option PoolFault) → IsOver table chain kept → id ≡ txid t → is ≡ t.inputs
+pub coins_are : (table : Table) (chain : Chain) (kept : List Tx) (t : Tx) (id : Hash32) (is : List TxIn) (x y : Option PoolFault) → IsTableOver table chain kept → id ≡ txid t → is ≡ t.inputs
     → missing chain kept is ≡ None → x ≡ conflict_by (get same_outpoint table.spenders) id is → x ≡ y → coin_refusal chain kept t ≡ y
 coins_are table chain kept t id is x y h same whole none says last =
     let gone : missing chain kept t.inputs ≡ None = ap (missing chain kept) (sym whole) ∙ none in
@@ -107,7 +107,7 @@ money_of bytes t (with_witness lawful some is) = lawful.money
 
 -- what is refused
 abbrev pub Refused : PoolLimits → Chain → List Tx → List ℕ → PoolFault → Type 0
-Refused limits chain kept bytes e = (e ≡ refusal.Memory) ⊎ ((e ≡ refusal.DiskFailed) ⊎ IsRefused limits chain kept bytes e)
+Refused limits chain kept bytes e = (e ≡ refusal.Memory) ⊎ ((e ≡ refusal.DiskFailed) ⊎ IsTxRefused limits chain kept bytes e)
 
 pub bad_refused : (limits : PoolLimits) (chain : Chain) (kept : List Tx) (bytes : List ℕ) (e : PoolFault) → (e ≡ refusal.Memory) ⊎ ((e ≡ refusal.Bad) × ((t : Tx) → Encodes bytes t → ⊥))
     → Refused limits chain kept bytes e
@@ -129,7 +129,7 @@ coins_refused limits chain kept bytes t e x enc says none (inr (inr h)) =
     inr (inr (inr (t, enc, ap (λ y. option_or y (option_or (coin_refusal chain kept t) (room_refusal limits chain kept t))) free ∙ ap (λ y. option_or y (room_refusal limits chain kept t)) h)))
 
 -- what is asked of the sums and the sizes
-pub all_is : (table : Table) (limits : PoolLimits) (chain : Chain) (kept : List Tx) (t : Tx) (bytes : List ℕ) (ss : List Source) (outs : List TxOut) (size : ℕ) (x y z : Option PoolFault) → IsOver table chain kept
+pub all_is : (table : Table) (limits : PoolLimits) (chain : Chain) (kept : List Tx) (t : Tx) (bytes : List ℕ) (ss : List Source) (outs : List TxOut) (size : ℕ) (x y z : Option PoolFault) → IsTableOver table chain kept
     → Encodes bytes t → x ≡ known_refusal chain kept t → x ≡ None → coin_refusal chain kept t ≡ None → ss ≡ sources chain kept t.inputs → outs ≡ t.outputs → size ≡ length bytes
     → y ≡ room_by limits table.count table.bytes ss outs size → y ≡ z → tx_refusal limits chain kept t ≡ z
 all_is table limits chain kept t bytes ss outs size x y z h enc says none coins are whole long room last =
@@ -146,17 +146,17 @@ any_same f g [] e = refl
 any_same f g (i ∷ is) e = let here = e i in rw here (ap (λ b. g i || b) (any_same f g is e))
 
 -- the flag of a transaction after those of the table
-pub flag_is : (table : Table) (chain : Chain) (kept : List Tx) (t : Tx) (ss : List Source) → IsOver table chain kept → AreNamed chain kept t.inputs → ss ≡ sources chain kept t.inputs → flag_by table ss ≡ flag kept t
+pub flag_is : (table : Table) (chain : Chain) (kept : List Tx) (t : Tx) (ss : List Source) → IsTableOver table chain kept → AreNamed chain kept t.inputs → ss ≡ sources chain kept t.inputs → flag_by table ss ≡ flag kept t
 flag_is table chain kept t ss h names are =
     ap (flag_by table) are ∙ ap (λ b. if b then negsuc 0 else pos 0)
-    (any_from (λ o. is_some (output_at table o)) chain kept t.inputs names
-    ∙ any_same (λ (i : TxIn). is_some (output_at table i.from)) (λ (i : TxIn). is_some (output_among i.from kept)) t.inputs (λ i. ap is_some (output_is table chain kept i.from h)))
+    (any_from (λ o. is_some (kept_output table o)) chain kept t.inputs names
+    ∙ any_same (λ (i : TxIn). is_some (kept_output table i.from)) (λ (i : TxIn). is_some (output_among i.from kept)) t.inputs (λ i. ap is_some (output_is table chain kept i.from h)))
 
 -- inputs that are not refused name something
 pub names_of : (chain : Chain) (kept : List Tx) (t : Tx) → coin_refusal chain kept t ≡ None → AreNamed chain kept t.inputs
 names_of chain kept t none = names_all chain kept t.inputs (both_none (missing chain kept t.inputs) (conflict kept (txid t) t.inputs) none).0
 
-pub kept_is : (table : Table) (chain : Chain) (kept : List Tx) (t : Tx) (bytes : List ℕ) (id : Hash32) (ss : List Source) (outs : List TxOut) (k : KeptTx) → IsOver table chain kept → coin_refusal chain kept t ≡ None
+pub kept_is : (table : Table) (chain : Chain) (kept : List Tx) (t : Tx) (bytes : List ℕ) (id : Hash32) (ss : List Source) (outs : List TxOut) (k : KeptTx) → IsTableOver table chain kept → coin_refusal chain kept t ≡ None
     → Encodes bytes t → id ≡ txid t → ss ≡ sources chain kept t.inputs → outs ≡ t.outputs
     → k ≡ record { txid = id; flag = flag_by table ss; fee = total_sources ss - total_held (map output_held outs); vsize = vsize t; bytes = bytes; inputs = ss; outputs = map output_held outs }
     → k ≡ kept_tx chain kept t

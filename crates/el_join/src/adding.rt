@@ -5,10 +5,10 @@ ghost use Rattle.el_chain.specs.Chains.{Chain};
 ghost use Rattle.el_model.specs.LedgerCalls.{Asked};
 ghost use Rattle.el_tx.specs.declared.types.Tx as shape;
 ghost use Rattle.el_mempool.specs.Adding.{Joined};
-ghost use Rattle.el_mempool.specs.Refusals.{IsRefused};
-ghost use Rattle.el_mempool.specs.Standing.{StandsFor};
+ghost use Rattle.el_mempool.specs.Refusals.{IsTxRefused};
+ghost use Rattle.el_mempool.specs.Standing.{KeptStandFor};
 ghost use Rattle.el_mempool.specs.Fees.{fee_change, AreFeeChanges};
-ghost use Rattle.el_kept.specs.Tables.{standing, IsTable, HasFewSlots};
+ghost use Rattle.el_kept.specs.Tables.{undropped, HasEntries, HasFewSlots};
 ghost use Rattle.el_kept.specs.Listings.{AreListed};
 
 use crate::examining::examine;
@@ -45,22 +45,22 @@ pub fn add_to<G: Ledger>(
     bytes: &[u8],
 ) -> Result<(Hash32, Touched), PoolFault>
     requires live { G.is_live ledger.old }
-    requires table { IsTable table.old (standing table.old.kept.entries) }
-    requires listed { AreListed listings.old (standing table.old.kept.entries) }
+    requires table { HasEntries table.old (undropped table.old.kept.entries) }
+    requires listed { AreListed listings.old (undropped table.old.kept.entries) }
     ensures joined { (chain : Chain) (kept : List shape.Tx)
-        → StandsFor (standing table.old.kept.entries) chain kept → G.stands ledger.old chain
+        → KeptStandFor (undropped table.old.kept.entries) chain kept → G.stands ledger.old chain
         → IfOk result (λ r.
-        Joined limits.now chain kept bytes.now (standing table.new.kept.entries) r.0 r.1) }
+        Joined limits.now chain kept bytes.now (undropped table.new.kept.entries) r.0 r.1) }
     ensures refused { (chain : Chain) (kept : List shape.Tx)
-        → StandsFor (standing table.old.kept.entries) chain kept → G.stands ledger.old chain
+        → KeptStandFor (undropped table.old.kept.entries) chain kept → G.stands ledger.old chain
         → IfErr result (λ e. (e ≡ PoolFault.Memory) ⊎ ((e ≡ PoolFault.DiskFailed)
-        ⊎ IsRefused limits.now chain kept bytes.now e)) }
-    ensures table { IsTable table.new (standing table.new.kept.entries) }
-    ensures listed { AreListed listings.new (standing table.new.kept.entries) }
+        ⊎ IsTxRefused limits.now chain kept bytes.now e)) }
+    ensures table { HasEntries table.new (undropped table.new.kept.entries) }
+    ensures listed { AreListed listings.new (undropped table.new.kept.entries) }
     ensures slots { HasFewSlots table.old → HasFewSlots table.new }
     ensures fees { (chain : Chain) (kept : List shape.Tx)
-        → StandsFor (standing table.old.kept.entries) chain kept → G.stands ledger.old chain
-        → OnOk result (AreFeeChanges (standing table.old.kept.entries) (standing table.new.kept.entries)
+        → KeptStandFor (undropped table.old.kept.entries) chain kept → G.stands ledger.old chain
+        → OnOk result (AreFeeChanges (undropped table.old.kept.entries) (undropped table.new.kept.entries)
         changes.new.items) }
     ensures same { OnErr result (table.new.kept.entries ≡ table.old.kept.entries) }
     ensures same_changes { OnErr result (changes.new.items ≡ changes.old.items) }

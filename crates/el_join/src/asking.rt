@@ -9,7 +9,7 @@ ghost use Rattle.el_mempool.specs.Sift as spec;
 ghost use Rattle.el_mempool.specs.Refusals.{missing};
 ghost use Rattle.el_mempool.specs.Standing.{sources};
 ghost use Rattle.el_kept.specs.declared.found.FoundOutput as found_shape;
-ghost use Rattle.el_kept.specs.Named.{IsOver, output_at};
+ghost use Rattle.el_kept.specs.Named.{IsTableOver, kept_output};
 ghost use Rattle.el_join.specs.within.Tables.{flag_by};
 
 use el_kept::{FoundOutput, Table, Taken, any_with, flag_of, output_in, output_or_coin};
@@ -26,11 +26,11 @@ pub fn named<G: Ledger>(
     outpoint: &Outpoint,
 ) -> Result<Option<FoundOutput>, DiskFailed>
     requires live { G.is_live ledger.old }
-    ensures named { (chain : Chain) (kept : List shape.Tx) → IsOver table.now chain kept
+    ensures named { (chain : Chain) (kept : List shape.Tx) → IsTableOver table.now chain kept
         → G.stands ledger.old chain → IfOk result (λ found.
         option_map (λ (n : found_shape.FoundOutput). n.held) found ≡ spec.named chain kept outpoint.now) }
     ensures output { IfOk result (λ found. IfSome found (λ n.
-        n.is_kept ≡ is_some (output_at table.now outpoint.now))) }
+        n.is_kept ≡ is_some (kept_output table.now outpoint.now))) }
     ensures quiet { Asked ⟦<G as Ledger>⟧ ledger.old ledger.new }
     ensures cause { HasCause (G.faults ledger.old) (G.faults ledger.new) result }
 {
@@ -50,13 +50,13 @@ pub fn sources_of<G: Ledger>(
     inputs: &[TxIn],
 ) -> Result<Taken, PoolFault>
     requires live { G.is_live ledger.old }
-    ensures found { (chain : Chain) (kept : List shape.Tx) → IsOver table.now chain kept
+    ensures found { (chain : Chain) (kept : List shape.Tx) → IsTableOver table.now chain kept
         → G.stands ledger.old chain
         → IfOk result (λ taken. taken.sources.items ≡ sources chain kept inputs.now) }
     ensures flag { IfOk result (λ taken. taken.flag ≡ flag_by table.now taken.sources.items) }
-    ensures all { (chain : Chain) (kept : List shape.Tx) → IsOver table.now chain kept
+    ensures all { (chain : Chain) (kept : List shape.Tx) → IsTableOver table.now chain kept
         → G.stands ledger.old chain → OnOk result (missing chain kept inputs.now ≡ None) }
-    ensures missing { (chain : Chain) (kept : List shape.Tx) → IsOver table.now chain kept
+    ensures missing { (chain : Chain) (kept : List shape.Tx) → IsTableOver table.now chain kept
         → G.stands ledger.old chain → IfErr result (λ e. (e ≡ PoolFault.Memory) ⊎ ((e ≡ PoolFault.DiskFailed)
         ⊎ (missing chain kept inputs.now ≡ Some e))) }
     ensures quiet { Asked ⟦<G as Ledger>⟧ ledger.old ledger.new }

@@ -8,9 +8,9 @@ ghost use Rattle.el_tx.specs.declared.types.Tx as shape;
 ghost use Rattle.el_tx.specs.Encoding.{Encodes};
 ghost use Rattle.el_tx.specs.Hashing as hashing;
 ghost use Rattle.el_mempool.specs.Sift.{output_held, total_held};
-ghost use Rattle.el_mempool.specs.Refusals.{known_refusal, coin_refusal, IsRefused};
+ghost use Rattle.el_mempool.specs.Refusals.{known_refusal, coin_refusal, IsTxRefused};
 ghost use Rattle.el_mempool.specs.Standing.{sources};
-ghost use Rattle.el_kept.specs.Named.{IsOver, total_sources};
+ghost use Rattle.el_kept.specs.Named.{IsTableOver, total_sources};
 ghost use Rattle.el_join.specs.within.Tables.{Joins, flag_by};
 
 use crate::asking::sources_of;
@@ -34,7 +34,7 @@ fn known_of<G: Ledger>(
 ) -> Result<Option<PoolFault>, DiskFailed>
     requires live { G.is_live ledger.old }
     requires id { id.now ≡ hashing.txid tx.now }
-    ensures first { (chain : Chain) (kept : List shape.Tx) → IsOver table.now chain kept
+    ensures first { (chain : Chain) (kept : List shape.Tx) → IsTableOver table.now chain kept
         → G.stands ledger.old chain → IfOk result (λ refusal. refusal ≡ known_refusal chain kept tx.now) }
     ensures other { result ≢ Ok (Some PoolFault.DiskFailed) }
     ensures quiet { Asked ⟦<G as Ledger>⟧ ledger.old ledger.new }
@@ -62,13 +62,13 @@ fn take_coins<G: Ledger>(
 ) -> Result<Taken, PoolFault>
     requires live { G.is_live ledger.old }
     requires id { id ≡ hashing.txid tx.now }
-    ensures found { (chain : Chain) (kept : List shape.Tx) → IsOver table.now chain kept
+    ensures found { (chain : Chain) (kept : List shape.Tx) → IsTableOver table.now chain kept
         → G.stands ledger.old chain
         → IfOk result (λ taken. taken.sources.items ≡ sources chain kept tx.now.inputs) }
     ensures flag { IfOk result (λ taken. taken.flag ≡ flag_by table.now taken.sources.items) }
-    ensures none { (chain : Chain) (kept : List shape.Tx) → IsOver table.now chain kept
+    ensures none { (chain : Chain) (kept : List shape.Tx) → IsTableOver table.now chain kept
         → G.stands ledger.old chain → OnOk result (coin_refusal chain kept tx.now ≡ None) }
-    ensures first { (chain : Chain) (kept : List shape.Tx) → IsOver table.now chain kept
+    ensures first { (chain : Chain) (kept : List shape.Tx) → IsTableOver table.now chain kept
         → G.stands ledger.old chain → IfErr result (λ e. (e ≡ PoolFault.Memory) ⊎ ((e ≡ PoolFault.DiskFailed)
         ⊎ (coin_refusal chain kept tx.now ≡ Some e))) }
     ensures quiet { Asked ⟦<G as Ledger>⟧ ledger.old ledger.new }
@@ -155,11 +155,11 @@ pub fn examine<G: Ledger>(
     bytes: &[u8],
 ) -> Result<KeptTx, PoolFault>
     requires live { G.is_live ledger.old }
-    ensures joins { (chain : Chain) (kept : List shape.Tx) → IsOver table.now chain kept
+    ensures joins { (chain : Chain) (kept : List shape.Tx) → IsTableOver table.now chain kept
         → G.stands ledger.old chain → IfOk result (Joins limits.now chain kept bytes.now) }
-    ensures refused { (chain : Chain) (kept : List shape.Tx) → IsOver table.now chain kept
+    ensures refused { (chain : Chain) (kept : List shape.Tx) → IsTableOver table.now chain kept
         → G.stands ledger.old chain → IfErr result (λ e. (e ≡ PoolFault.Memory) ⊎ ((e ≡ PoolFault.DiskFailed)
-        ⊎ IsRefused limits.now chain kept bytes.now e)) }
+        ⊎ IsTxRefused limits.now chain kept bytes.now e)) }
     ensures quiet { Asked ⟦<G as Ledger>⟧ ledger.old ledger.new }
     ensures cause { CountsOnly (G.faults ledger.old) (G.faults ledger.new) PoolFault.DiskFailed result }
 {

@@ -10,11 +10,11 @@ ghost use Rattle.el_chain.specs.Chains.{Chain};
 ghost use Rattle.el_tx.specs.Hashing.{same_outpoint};
 ghost use Rattle.el_tx.specs.declared.types.Tx as tx_shape;
 ghost use Rattle.el_mempool.specs.Sift.{sift, other_than};
-ghost use Rattle.el_mempool.specs.Standing.{StandsFor, AreChanged, has_entry};
-ghost use Rattle.el_kept.specs.Tables.{standing, slot, slot_at_script, IsTable, HasFewSlots};
+ghost use Rattle.el_mempool.specs.Standing.{KeptStandFor, AreChanged, has_entry};
+ghost use Rattle.el_kept.specs.Tables.{undropped, slot, slot_at_script, HasEntries, HasFewSlots};
 ghost use Rattle.el_kept.specs.Listings.{AreListed};
 ghost use Rattle.el_mempool.specs.Fees.{AreFeeChanges};
-ghost use Rattle.el_join.specs.within.Going.{with_taker, size, gone_change, Grown, Gathers};
+ghost use Rattle.el_join.specs.within.Going.{with_taker, size, gone_change, TakersAdded, Gathers};
 
 use el_base::{Hash32, OutOfMemory};
 use el_chain::Touched;
@@ -51,7 +51,8 @@ fn add_taker(by: Option<Hash32>, gone: &mut Touched) -> Result<(), OutOfMemory>
 
 // Adds the takers of the outputs of the kept transaction.
 fn add_takers(table: &Table, id: &Hash32, gone: &mut Touched) -> Result<(), OutOfMemory>
-    ensures { OnOk result (Grown (get same_outpoint table.now.spenders) id.now (size (slot table.now id.now))
+    ensures { OnOk result (TakersAdded (get same_outpoint table.now.spenders) id.now
+        (size (slot table.now id.now))
         gone.old gone.new) }
 {
     let count = outputs_of(table, id)?;
@@ -128,7 +129,8 @@ fn changes_of_all(
     table: &Table,
     ids: &[Hash32],
 ) -> Result<Vec<FeeChange>, OutOfMemory>
-    ensures { IfOk result (λ changes. changes.items ≡ flat_map (λ id. gone_change (slot table.now id)) ids.now) }
+    ensures { IfOk result
+        (λ changes. changes.items ≡ flat_map (λ id. gone_change (slot table.now id)) ids.now) }
 {
     let mut changes = Vec::new(alloc);
     for id in ids {
@@ -147,20 +149,20 @@ pub fn drop_from(
     changes: &mut Vec<FeeChange>,
     txid: &Hash32,
 ) -> Result<Option<Touched>, OutOfMemory>
-    requires table { IsTable table.old (standing table.old.kept.entries) }
-    requires listed { AreListed listings.old (standing table.old.kept.entries) }
-    ensures kept { IfOk result (λ r. is_some r ≡ has_entry txid.now (standing table.old.kept.entries)) }
+    requires table { HasEntries table.old (undropped table.old.kept.entries) }
+    requires listed { AreListed listings.old (undropped table.old.kept.entries) }
+    ensures kept { IfOk result (λ r. is_some r ≡ has_entry txid.now (undropped table.old.kept.entries)) }
     ensures stands { (chain : Chain) (kept : List tx_shape.Tx)
-        → StandsFor (standing table.old.kept.entries) chain kept
+        → KeptStandFor (undropped table.old.kept.entries) chain kept
         → IfOk result (λ r. IfSome r (λ touched.
-        StandsFor (standing table.new.kept.entries) chain (sift chain (other_than txid.now kept))
+        KeptStandFor (undropped table.new.kept.entries) chain (sift chain (other_than txid.now kept))
         × AreChanged chain kept chain (sift chain (other_than txid.now kept)) touched)) }
-    ensures table { IsTable table.new (standing table.new.kept.entries) }
-    ensures listed { AreListed listings.new (standing table.new.kept.entries) }
+    ensures table { HasEntries table.new (undropped table.new.kept.entries) }
+    ensures listed { AreListed listings.new (undropped table.new.kept.entries) }
     ensures slots { HasFewSlots table.old → HasFewSlots table.new }
     ensures fees { (chain : Chain) (kept : List tx_shape.Tx)
-        → StandsFor (standing table.old.kept.entries) chain kept
-        → OnOk result (AreFeeChanges (standing table.old.kept.entries) (standing table.new.kept.entries)
+        → KeptStandFor (undropped table.old.kept.entries) chain kept
+        → OnOk result (AreFeeChanges (undropped table.old.kept.entries) (undropped table.new.kept.entries)
         changes.new.items) }
     ensures absent { result ≡ Ok None → table.new.kept.entries ≡ table.old.kept.entries }
     ensures no_changes { result ≡ Ok None → changes.new.items ≡ [] }

@@ -24,14 +24,14 @@ given (Places ds) place name = get_item place ds
 given (Names ms) place name = get_member name ms
 
 -- the name is one of these
-abbrev pub is_among : List (List ℕ) → List ℕ → Bool
-is_among [] name = false
-is_among (n ∷ ns) name = bytes_eq n name || is_among ns name
+abbrev pub is_known_name : List (List ℕ) → List ℕ → Bool
+is_known_name [] name = false
+is_known_name (n ∷ ns) name = bytes_eq n name || is_known_name ns name
 
 -- each member has one of these names
 abbrev pub all_among : List (List ℕ) → Members → Bool
 all_among names no_members = true
-all_among names (member k d ms) = is_among names k && all_among names ms
+all_among names (member k d ms) = is_known_name names k && all_among names ms
 
 -- Nothing is given but parameters of these names; by place, no more than there are.
 abbrev pub has_only : List (List ℕ) → Params → Bool
@@ -54,8 +54,8 @@ abbrev pub hash_shown : List ℕ → Option Hash32
 hash_shown text = hash_or (decode_sized text 32)
 
 -- the hash that a text shows by 64 hex digits, in inner order
-abbrev pub hash_in : Data → Option Hash32
-hash_in d = option_and_then hash_shown (as_str d)
+abbrev pub hash_from_hex : Data → Option Hash32
+hash_from_hex d = option_and_then hash_shown (as_str d)
 
 -- the two values of a list of exactly two
 abbrev pub pair_of : Items → Option (Data × Data)

@@ -3,7 +3,7 @@ ghost use Rattle.std.specs.Prelude.{◌≡◌, ◌↔◌, IsTrue, option_map, is
 ghost use Rattle.serde_json.specs.Events.{items_len};
 ghost use Rattle.serde_json.specs.Find.{get_item, get_member, as_bool, as_str, as_object};
 ghost use Rattle.serde_json.specs.View.{view, items_view, members_view};
-ghost use Rattle.el_json.specs.Parameters.{given, has_only, all_among, is_among, texts_of, number_in, hash_in, hash_shown, pair_in, pair_of};
+ghost use Rattle.el_json.specs.Parameters.{given, has_only, all_among, is_known_name, texts_of, number_in, hash_from_hex, hash_shown, pair_in, pair_of};
 
 use el_base::Hash32;
 use serde_json::{Map, Value as Json};
@@ -65,7 +65,7 @@ impl<'v> Param<'v> {
 
     /// A hash, shown by 64 hex digits in either case. It is given in inner order.
     pub fn hash(&self) -> Option<Hash32>
-        ensures { result ≡ hash_in self.now }
+        ensures { result ≡ hash_from_hex self.now }
     {
         match self.value.as_str() {
             Some(text) => hash_shown(text),
@@ -223,7 +223,7 @@ fn names_are_among(map: &Map<String, Json>, names: &[&str]) -> bool
 }
 
 fn is_one_of(name: &str, names: &[&str]) -> bool
-    ensures { result ≡ is_among (texts_of names.now) name.now }
+    ensures { result ≡ is_known_name (texts_of names.now) name.now }
 {
     for other in names {
         if *other == name {

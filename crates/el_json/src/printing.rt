@@ -137,8 +137,8 @@ fn members_room(map: &Map<String, Json>) -> usize
     room
 }
 
-// A writer that has written nothing, with room for the value's compact text and one byte more, unless a text in
-// it needs escapes.
+// A writer that has written nothing, with room for the value's compact text and one byte more, unless a text
+// in it needs escapes.
 fn writer_for(alloc: Global, value: &Json) -> Result<Writer, AllocError>
     ensures before { IfOk result (λ out. out.before ≡ []) }
     ensures tokens { IfOk result (λ out. out.tokens ≡ []) }

@@ -18,9 +18,9 @@ use Rattle.el_mempool.specs.declared.held.Source.{Source}
 use Rattle.el_mempool.specs.declared.held.KeptTx.{KeptTx}
 use Rattle.el_mempool.specs.Sift.{output_held, output_among, named, any_takes}
 use Rattle.el_mempool.specs.Refusals.{is_kept, kept_with, spender_of}
-use Rattle.el_mempool.specs.Standing.{source_at, sources, kept_tx, StandsFor}
+use Rattle.el_mempool.specs.Standing.{source_at, sources, kept_tx, KeptStandFor}
 use Rattle.el_kept.specs.declared.table.Table.{Table}
-use Rattle.el_kept.specs.Tables.{standing, StandRight, by_txid, takes_from, held_among, slot, IsTable}
+use Rattle.el_kept.specs.Tables.{undropped, StandUnderTxids, by_txid, takes_from, held_among, slot, HasEntries}
 use Rattle.el_mempool.proofs.Confirmed.{hash_same, hash_turned}
 use Rattle.el_mempool.proofs.Named.{AreNamed, AllNamed}
 use Rattle.el_mempool.proofs.Dropping.{output_apart}
@@ -28,7 +28,7 @@ use Rattle.el_mempool.proofs.Picked.{KeysApart}
 
 -- ---- a table's entries
 
-none_standing : (id k : Hash32) (es : List (Hash32 × Option KeptTx)) → id ≡ k → StandRight es → AllByRecursion (λ q. same_hash k q ≡ false) (keys_of es) → by_txid id (standing es) ≡ None
+none_standing : (id k : Hash32) (es : List (Hash32 × Option KeptTx)) → id ≡ k → StandUnderTxids es → AllByRecursion (λ q. same_hash k q ≡ false) (keys_of es) → by_txid id (undropped es) ≡ None
 none_standing id k [] is right apart = refl
 none_standing id k ((q, None) ∷ es) is right apart = none_standing id k es is right.1 apart.1
 none_standing id k ((q, Some e) ∷ es) is right apart =
@@ -36,7 +36,7 @@ none_standing id k ((q, Some e) ∷ es) is right apart =
     rw other (none_standing id k es is right.1 apart.1)
 
 -- what is found under a txid
-pub found_standing : (id : Hash32) (es : List (Hash32 × Option KeptTx)) → StandRight es → IsDistinct same_hash (keys_of es) → option_flatten (lookup (same_hash id) es) ≡ by_txid id (standing es)
+pub found_standing : (id : Hash32) (es : List (Hash32 × Option KeptTx)) → StandUnderTxids es → IsDistinct same_hash (keys_of es) → option_flatten (lookup (same_hash id) es) ≡ by_txid id (undropped es)
 unfolding IsDistinct
 found_standing id [] right once = refl
 found_standing id ((k, None) ∷ es) right once = elim (cases_Bool (same_hash id k)) [
@@ -114,10 +114,10 @@ entry_with id chain all (t ∷ ts) = by (same_hash id (txid t)) (entry_with id c
     by false e = e
 
 -- what is found under a txid
-pub found_is : (table : Table) (chain : Chain) (kept : List Tx) (id : Hash32) → IsTable table (standing table.kept.entries) → StandsFor (standing table.kept.entries) chain kept
+pub found_is : (table : Table) (chain : Chain) (kept : List Tx) (id : Hash32) → HasEntries table (undropped table.kept.entries) → KeptStandFor (undropped table.kept.entries) chain kept
     → slot table id ≡ option_map (kept_tx chain kept) (kept_with id kept)
 found_is table chain kept id t h = found_standing id table.kept.entries t.right t.once ∙ ap (by_txid id) h.are ∙ entry_with id chain kept kept
 
-pub found_for : (table : Table) (entries : List KeptTx) (id : Hash32) (x : Option KeptTx) → IsTable table (standing table.kept.entries) → standing table.kept.entries ≡ entries → x ≡ slot table id
-    → (chain : Chain) (kept : List Tx) → StandsFor entries chain kept → x ≡ option_map (kept_tx chain kept) (kept_with id kept)
+pub found_for : (table : Table) (entries : List KeptTx) (id : Hash32) (x : Option KeptTx) → HasEntries table (undropped table.kept.entries) → undropped table.kept.entries ≡ entries → x ≡ slot table id
+    → (chain : Chain) (kept : List Tx) → KeptStandFor entries chain kept → x ≡ option_map (kept_tx chain kept) (kept_with id kept)
 found_for table entries id x t same is chain kept h = is ∙ found_is table chain kept id t (rw (← same) at h)

@@ -24,9 +24,9 @@ use Rattle.el_mempool.specs.Standing.{is_at_script}
 use Rattle.el_mempool.proofs.Confirmed.{hash_self, hash_same, hash_turned}
 use Rattle.el_kept.specs.declared.listing.Listing.{Listing}
 use Rattle.el_kept.specs.declared.table.Table.{Table}
-use Rattle.el_kept.specs.Tables.{standing, by_txid, slot_at_script, without, IsTable, AreSame}
+use Rattle.el_kept.specs.Tables.{undropped, by_txid, slot_at_script, without_txids, HasEntries, HaveSameEntries}
 use Rattle.el_kept.proofs.Entries.{found_standing}
-use Rattle.el_kept.specs.Listings.{listing_cmp, txid_of, listing, lists, is_in, AreListed}
+use Rattle.el_kept.specs.Listings.{listing_cmp, txid_of, listing, is_listing_of, is_in, AreListed}
 
 -- ---- one listing is another
 
@@ -45,7 +45,7 @@ turned_bytes xs ys =
     (λ e. sym (reverse-reverse xs) ∙ ap reverse (d.0 e), λ e. d.1 (ap reverse e ∙ reverse-reverse ys))
     (bytes_eq-Decides xs (reverse ys))
 
-pub listed_is : (script id : Hash32) (l : Listing) → is_eq (listing_cmp (listing script id) l) ≡ lists script id l
+pub listed_is : (script id : Hash32) (l : Listing) → is_eq (listing_cmp (listing script id) l) ≡ is_listing_of script id l
 listed_is script id l =
     same_then (slice_cmp nat_cmp script.0 l.script.0) (slice_cmp nat_cmp (reverse id.0) l.reversed)
     ∙ ap (λ b. b && is_eq (slice_cmp nat_cmp (reverse id.0) l.reversed)) (same_bytes script.0 l.script.0)
@@ -179,7 +179,7 @@ found_none id ks rest none also =
     ∙ ap (λ x. option_or x (by_txid id rest)) none ∙ also
 
 without_found : (id x : Hash32) (ks : List KeptTx)
-    → by_txid id (without (x ∷ []) ks) ≡ cond (same_hash id x) None (by_txid id ks)
+    → by_txid id (without_txids (x ∷ []) ks) ≡ cond (same_hash id x) None (by_txid id ks)
 without_found id x [] = by (same_hash id x)
   where
     by : (b : Bool) → ◌≡◌ {A = Option KeptTx} None (cond b None None)
@@ -189,11 +189,11 @@ without_found id x (k ∷ ks) =
     by (same_hash k.txid x) (same_hash id k.txid) (same_hash id x) refl refl refl (without_found id x ks)
   where
     Goal : Bool → Bool → Bool → Type 0
-    Goal a b c = by_txid id (cond (not (a || false)) (k ∷ without (x ∷ []) ks) (without (x ∷ []) ks))
+    Goal a b c = by_txid id (cond (not (a || false)) (k ∷ without_txids (x ∷ []) ks) (without_txids (x ∷ []) ks))
         ≡ cond c None (cond b (Some k) (by_txid id ks))
 
     by : (a b c : Bool) → same_hash k.txid x ≡ a → same_hash id k.txid ≡ b → same_hash id x ≡ c
-        → by_txid id (without (x ∷ []) ks) ≡ cond (same_hash id x) None (by_txid id ks) → Goal a b c
+        → by_txid id (without_txids (x ∷ []) ks) ≡ cond (same_hash id x) None (by_txid id ks) → Goal a b c
     by true b true sa sb sc more = more ∙ ap (λ y. cond y None (by_txid id ks)) sc
     by true true false sa sb sc more =
         absurd (true≢false (sym (ap (same_hash id) (sym (hash_same k.txid x sa)) ∙ sb) ∙ sc))
@@ -254,7 +254,7 @@ listed_out old new ks rest id others none also is l = is l ∙ by (same_hash id 
 
 pub listed_without : (old new : BTreeSet Listing) (ks : List KeptTx) (id : Hash32) → AreListed old ks
     → ((l : Listing) → is_in new l ≡ cond (same_hash id (txid_of l)) false (is_in old l))
-    → AreListed new (without (id ∷ []) ks)
+    → AreListed new (without_txids (id ∷ []) ks)
 listed_without old new ks id h is l =
     is l ∙ by (same_hash id (txid_of l)) (hash_turned (txid_of l) id)
     ∙ ap (slot_at_script l.script.0) (sym (without_found (txid_of l) id ks))
@@ -266,20 +266,20 @@ listed_without old new ks id h is l =
 
 -- after an entry was put and listed, or neither
 pub after_listed : {A E : Type 0} (r : Result A E) (t u : Table) (ls : BTreeSet Listing) (k : KeptTx)
-    → OnOk r (IsTable u (standing t.kept.entries ++ k ∷ [])) → OnErr r (AreSame t u)
-    → OnOk r (AreListed ls (standing t.kept.entries ++ k ∷ [])) → OnErr r (AreListed ls (standing t.kept.entries))
-    → AreListed ls (standing u.kept.entries)
+    → OnOk r (HasEntries u (undropped t.kept.entries ++ k ∷ [])) → OnErr r (HaveSameEntries t u)
+    → OnOk r (AreListed ls (undropped t.kept.entries ++ k ∷ [])) → OnErr r (AreListed ls (undropped t.kept.entries))
+    → AreListed ls (undropped u.kept.entries)
 after_listed (Ok x) t u ls k put same listed as_before = let is = put.are in rw is listed
 after_listed (Err e) t u ls k put same listed as_before = let is = same.kept in rw is as_before
 
 -- ---- look-ups
 
-pub kept_found : (t : Table) (id : Hash32) (x : Option (Bor KeptTx)) (b : Bor KeptTx) → IsTable t (standing t.kept.entries)
-    → option_copied x ≡ option_flatten (get same_hash t.kept id) → x ≡ Some b → by_txid id (standing t.kept.entries) ≡ Some b.now
+pub kept_found : (t : Table) (id : Hash32) (x : Option (Bor KeptTx)) (b : Bor KeptTx) → HasEntries t (undropped t.kept.entries)
+    → option_copied x ≡ option_flatten (get same_hash t.kept id) → x ≡ Some b → by_txid id (undropped t.kept.entries) ≡ Some b.now
 kept_found t id x b h says is = sym (found_standing id t.kept.entries h.right h.once) ∙ sym says ∙ ap option_copied is
 
-pub kept_none : (t : Table) (id : Hash32) (x : Option (Bor KeptTx)) → IsTable t (standing t.kept.entries)
-    → option_copied x ≡ option_flatten (get same_hash t.kept id) → x ≡ None → by_txid id (standing t.kept.entries) ≡ None
+pub kept_none : (t : Table) (id : Hash32) (x : Option (Bor KeptTx)) → HasEntries t (undropped t.kept.entries)
+    → option_copied x ≡ option_flatten (get same_hash t.kept id) → x ≡ None → by_txid id (undropped t.kept.entries) ≡ None
 kept_none t id x h says is = sym (found_standing id t.kept.entries h.right h.once) ∙ sym says ∙ ap option_copied is
 
 -- the listings of an entry that is found
@@ -290,7 +290,7 @@ found_listings ls ks id k h found l same =
 
 pub found_out : (old new : BTreeSet Listing) (ks : List KeptTx) (id : Hash32) (k : KeptTx) → AreListed old ks
     → by_txid id ks ≡ Some k → ((l : Listing) → is_in new l ≡ cond (same_hash k.txid (txid_of l)) false (is_in old l))
-    → AreListed new (without (id ∷ []) ks)
+    → AreListed new (without_txids (id ∷ []) ks)
 found_out old new ks id k h found is =
     listed_without old new ks id h
     (λ l. is l ∙ ap (λ x. cond (same_hash x (txid_of l)) false (is_in old l)) (found_txid id ks k found))

@@ -27,7 +27,7 @@ use Rattle.el_mempool.specs.declared.held.Source.{Source}
 use Rattle.el_mempool.specs.declared.held.KeptTx.{KeptTx}
 use Rattle.el_mempool.specs.Sift.{coin_named, output_among, named, held_by, total_held, is_confirmed, may_join, output_held}
 use Rattle.el_mempool.specs.Refusals.{spender_of}
-use Rattle.el_mempool.specs.Standing.{source_at, sources, StandsFor}
+use Rattle.el_mempool.specs.Standing.{source_at, sources, KeptStandFor}
 use Rattle.el_mempool.specs.Unconfirmed.{fee}
 use Rattle.el_mempool.proofs.Sifting.{joins_of}
 use Rattle.el_mempool.proofs.Confirmed.{hash_same, unconfirmed_none}
@@ -38,13 +38,13 @@ use Rattle.el_mempool.proofs.Sifted.{AreFresh}
 use Rattle.el_mempool.proofs.Changes.{apart_from}
 use Rattle.el_kept.specs.declared.found.FoundOutput.{FoundOutput}
 use Rattle.el_kept.specs.declared.table.Table.{Table}
-use Rattle.el_kept.specs.Named.{found_by, total_sources, IsOver, AreUnspent}
-use Rattle.el_kept.specs.Tables.{standing, by_txid, takes_from, IsTable}
+use Rattle.el_kept.specs.Named.{found_by, total_sources, IsTableOver, AreUnspent}
+use Rattle.el_kept.specs.Tables.{undropped, by_txid, takes_from, HasEntries}
 use Rattle.el_kept.proofs.Entries.{found_standing, held_is, taker_is}
 
 -- a table of a set that stands for transactions
-pub is_over : (table : Table) (chain : Chain) (kept : List Tx) → IsTable table (standing table.kept.entries) → StandsFor (standing table.kept.entries) chain kept → IsOver table chain kept
-is_over table chain kept t h = record { entries = standing table.kept.entries; table = t; stands = h }
+pub is_over : (table : Table) (chain : Chain) (kept : List Tx) → HasEntries table (undropped table.kept.entries) → KeptStandFor (undropped table.kept.entries) chain kept → IsTableOver table chain kept
+is_over table chain kept t h = record { entries = undropped table.kept.entries; table = t; stands = h }
 
 pub none_of : {X : Type 0} (x : Option X) → is_some x ≡ false → x ≡ None
 none_of None h = refl
@@ -53,14 +53,14 @@ none_of (Some y) h = absurd (true≢false h)
 -- ---- what an outpoint names
 
 -- what the table says that an outpoint names
-pub output_is : (t : Table) (chain : Chain) (kept : List Tx) (o : Outpoint) → IsOver t chain kept
+pub output_is : (t : Table) (chain : Chain) (kept : List Tx) (o : Outpoint) → IsTableOver t chain kept
     → option_and_then (λ (k : KeptTx). slice_get k.outputs o.index) (option_flatten (get same_hash t.kept o.txid)) ≡ output_among o kept
 output_is t chain kept o h =
     ap (option_and_then (λ (k : KeptTx). slice_get k.outputs o.index)) (found_standing o.txid t.kept.entries h.table.right h.table.once ∙ ap (by_txid o.txid) (h.table.are ∙ h.stands.are))
     ∙ held_is o chain kept kept (apart_from kept h.stands.once)
 
 -- who takes an outpoint
-pub takers_are : (t : Table) (chain : Chain) (kept : List Tx) (o : Outpoint) → IsOver t chain kept → get same_outpoint t.spenders o ≡ option_map txid (spender_of o kept)
+pub takers_are : (t : Table) (chain : Chain) (kept : List Tx) (o : Outpoint) → IsTableOver t chain kept → get same_outpoint t.spenders o ≡ option_map txid (spender_of o kept)
 takers_are t chain kept o h =
     h.table.takers o ∙ ap (λ ks. option_map (λ (k : KeptTx). k.txid) (find (takes_from o) ks)) h.stands.are ∙ taker_is o chain kept kept (all_named chain kept h.stands.sifted)
 
@@ -72,7 +72,7 @@ kept_unspent chain o v (t ∷ ts) fresh h = elim (cases_Bool (same_hash (txid t)
   | inr e ↦ kept_unspent chain o v ts fresh.1 (sym (ap (λ x. option_or x (output_among o ts)) (output_apart o t e)) ∙ h)
 ]
 
-pub unspent_of : (chain : Chain) (kept : List Tx) (entries : List KeptTx) → StandsFor entries chain kept → AreUnspent chain kept
+pub unspent_of : (chain : Chain) (kept : List Tx) (entries : List KeptTx) → KeptStandFor entries chain kept → AreUnspent chain kept
 unspent_of chain kept entries h o some = by (output_among o kept) refl some
   where
     by : (x : Option Held) → output_among o kept ≡ x → is_some x ≡ true → coin_named chain o ≡ None

@@ -13,7 +13,7 @@ use Rattle.indexmap.proofs.CallerLemmas.{insert_entry-new}
 use Rattle.el_base.specs.declared.hash.Hash32.{Hash32}
 use Rattle.el_chain.specs.Headers.{same_hash}
 use Rattle.el_mempool.specs.declared.held.KeptTx.{KeptTx}
-use Rattle.el_kept.specs.Tables.{standing, StandRight, by_txid}
+use Rattle.el_kept.specs.Tables.{undropped, StandUnderTxids, by_txid}
 use Rattle.el_kept.proofs.Slots.{Slot}
 
 -- ---- the last slot takes the place of the first with a key that passes the test
@@ -64,7 +64,7 @@ last_moved test l (e ∷ es) some =
 
 -- ---- what stands is the same
 
-put_standing : (id name : Hash32) (es : List Slot) → StandRight es → by_txid id (standing es) ≡ None → standing (put_at (same_hash id) (name, None) es) ≡ standing es
+put_standing : (id name : Hash32) (es : List Slot) → StandUnderTxids es → by_txid id (undropped es) ≡ None → undropped (put_at (same_hash id) (name, None) es) ≡ undropped es
 put_standing id name [] right none = refl
 put_standing id name ((k, None) ∷ es) right none = elim (cases_Bool (same_hash id k)) [
   | inl h ↦ rw h refl
@@ -78,14 +78,14 @@ put_standing id name ((k, Some e) ∷ es) right none = elim (cases_Bool (same_ha
       rw h (ap (λ l. e ∷ l) (put_standing id name es right.1 more))
 ]
 
-put_right : (id name : Hash32) (es : List Slot) → StandRight es → StandRight (put_at (same_hash id) (name, None) es)
+put_right : (id name : Hash32) (es : List Slot) → StandUnderTxids es → StandUnderTxids (put_at (same_hash id) (name, None) es)
 put_right id name [] right = tt
 put_right id name (e ∷ es) right = elim (cases_Bool (same_hash id e.0)) [
   | inl h ↦ rw h (tt, right.1)
   | inr h ↦ rw h (right.0, put_right id name es right.1)
 ]
 
-pub removed_standing : (id : Hash32) (es : List Slot) → StandRight es → by_txid id (standing es) ≡ None → standing (remove_entry (same_hash id) es) ≡ standing es
+pub removed_standing : (id : Hash32) (es : List Slot) → StandUnderTxids es → by_txid id (undropped es) ≡ None → undropped (remove_entry (same_hash id) es) ≡ undropped es
 removed_standing id [] right none = refl
 removed_standing id ((k, None) ∷ es) right none = elim (cases_Bool (same_hash id k)) [
   | inl h ↦ rw h refl
@@ -99,7 +99,7 @@ removed_standing id ((k, Some e) ∷ es) right none = elim (cases_Bool (same_has
       rw h (ap (λ l. e ∷ l) (removed_standing id es right.1 more))
 ]
 
-pub removed_right : (id : Hash32) (es : List Slot) → StandRight es → StandRight (remove_entry (same_hash id) es)
+pub removed_right : (id : Hash32) (es : List Slot) → StandUnderTxids es → StandUnderTxids (remove_entry (same_hash id) es)
 removed_right id [] right = tt
 removed_right id (e ∷ es) right = elim (cases_Bool (same_hash id e.0)) [
   | inl h ↦ rw h right.1
@@ -120,16 +120,16 @@ moved old mid new id name there free put cut =
     ∙ last_moved (same_hash id) (name, None) old.entries there
 
 pub renamed_standing : {S : Type 0} (old : IndexMap Hash32 (Option KeptTx) S) (mid new : List Slot) (id name : Hash32)
-    → StandRight old.entries → by_txid id (standing old.entries) ≡ None
+    → StandUnderTxids old.entries → by_txid id (undropped old.entries) ≡ None
     → is_some (get same_hash old id) ≡ true → get same_hash old name ≡ None
     → mid ≡ insert_entry same_hash old.entries name None → new ≡ swap_remove_entry (same_hash id) mid
-    → standing new ≡ standing old.entries
+    → undropped new ≡ undropped old.entries
 renamed_standing old mid new id name right none there free put cut =
-    ap standing (moved old mid new id name there free put cut) ∙ put_standing id name old.entries right none
+    ap undropped (moved old mid new id name there free put cut) ∙ put_standing id name old.entries right none
 
 pub renamed_right : {S : Type 0} (old : IndexMap Hash32 (Option KeptTx) S) (mid new : List Slot) (id name : Hash32)
-    → StandRight old.entries → is_some (get same_hash old id) ≡ true → get same_hash old name ≡ None
-    → mid ≡ insert_entry same_hash old.entries name None → new ≡ swap_remove_entry (same_hash id) mid → StandRight new
+    → StandUnderTxids old.entries → is_some (get same_hash old id) ≡ true → get same_hash old name ≡ None
+    → mid ≡ insert_entry same_hash old.entries name None → new ≡ swap_remove_entry (same_hash id) mid → StandUnderTxids new
 renamed_right old mid new id name right there free put cut =
     let is = moved old mid new id name there free put cut in
     rw is (put_right id name old.entries right)
@@ -137,13 +137,13 @@ renamed_right old mid new id name right there free put cut =
 -- ---- each slot has its transaction
 
 -- no more stand than there are slots
-pub standing_few : (es : List Slot) → length (standing es) ≤ length es
+pub standing_few : (es : List Slot) → length (undropped es) ≤ length es
 standing_few [] = omega arith
 standing_few ((q, None) ∷ es) = let few = standing_few es in omega (arith, few)
 standing_few ((q, Some k) ∷ es) = let few = standing_few es in omega (arith, few)
 
 -- where as many stand as there are slots, a txid that isn't kept has none
-pub all_stand : (id : Hash32) (es : List Slot) → StandRight es → length es ≡ length (standing es) → by_txid id (standing es) ≡ None → lookup (same_hash id) es ≡ None
+pub all_stand : (id : Hash32) (es : List Slot) → StandUnderTxids es → length es ≡ length (undropped es) → by_txid id (undropped es) ≡ None → lookup (same_hash id) es ≡ None
 all_stand id [] right all none = refl
 all_stand id ((q, None) ∷ es) right all none = let few = standing_few es in absurd (omega (arith, few, all))
 all_stand id ((q, Some k) ∷ es) right all none = elim (cases_Bool (same_hash id q)) [
@@ -157,8 +157,8 @@ all_stand id ((q, Some k) ∷ es) right all none = elim (cases_Bool (same_hash i
     bad : Some k ≡ None → ⊥
     bad x = cc
 
-    found : same_hash id q ≡ true → by_txid id (k ∷ standing es) ≡ Some k
+    found : same_hash id q ≡ true → by_txid id (k ∷ undropped es) ≡ Some k
     found h = let is = own ∙ h in rw is refl
 
-    later : same_hash id q ≡ false → by_txid id (k ∷ standing es) ≡ by_txid id (standing es)
+    later : same_hash id q ≡ false → by_txid id (k ∷ undropped es) ≡ by_txid id (undropped es)
     later h = let is = own ∙ h in rw is refl

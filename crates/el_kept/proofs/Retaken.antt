@@ -18,7 +18,7 @@ use Rattle.el_mempool.specs.declared.held.KeptTx.{KeptTx}
 use Rattle.el_mempool.proofs.Confirmed.{hash_self, hash_same, hash_turned}
 use Rattle.el_kept.specs.declared.table.Table.{Table}
 use Rattle.el_kept.specs.declared.retaking.Takes.{Takes}
-use Rattle.el_kept.specs.Tables.{standing, StandRight, by_txid, takes_from, slot, with_takes, same_froms, is_of, retaken, IsTable}
+use Rattle.el_kept.specs.Tables.{undropped, StandUnderTxids, by_txid, takes_from, slot, with_takes, same_froms, is_of, retaken, HasEntries}
 use Rattle.el_kept.proofs.Entries.{found_standing}
 use Rattle.el_kept.proofs.Slots.{Slot}
 use Rattle.el_kept.proofs.Cleared.{some_same, none_some, none_with, only_one}
@@ -102,14 +102,14 @@ off_only c (k ∷ ks) e h one = (
 )
 
 -- it is told of none
-pub untold : (t : Table) (c : Takes) → IsTable t (standing t.kept.entries) → is_of c (slot t c.txid) ≡ false → map (retaken c) (standing t.kept.entries) ≡ standing t.kept.entries
-untold t c h off = off_all c (standing t.kept.entries) (by (slot t c.txid) refl off)
+pub untold : (t : Table) (c : Takes) → HasEntries t (undropped t.kept.entries) → is_of c (slot t c.txid) ≡ false → map (retaken c) (undropped t.kept.entries) ≡ undropped t.kept.entries
+untold t c h off = off_all c (undropped t.kept.entries) (by (slot t c.txid) refl off)
   where
-    by : (x : Option KeptTx) → slot t c.txid ≡ x → is_of c x ≡ false → Off c (standing t.kept.entries)
-    by None e none = off_none c (standing t.kept.entries) (sym (found_standing c.txid t.kept.entries h.right h.once) ∙ e)
-    by (Some k) e none = off_only c (standing t.kept.entries) k none (only_one c.txid t.kept.entries k h.right h.once e)
+    by : (x : Option KeptTx) → slot t c.txid ≡ x → is_of c x ≡ false → Off c (undropped t.kept.entries)
+    by None e none = off_none c (undropped t.kept.entries) (sym (found_standing c.txid t.kept.entries h.right h.once) ∙ e)
+    by (Some k) e none = off_only c (undropped t.kept.entries) k none (only_one c.txid t.kept.entries k h.right h.once e)
 
-pub not_told : (t : Table) (c : Takes) → IsTable t (standing t.kept.entries) → is_of c (slot t c.txid) ≡ false → IsTable t (map (retaken c) (standing t.kept.entries))
+pub not_told : (t : Table) (c : Takes) → HasEntries t (undropped t.kept.entries) → is_of c (slot t c.txid) ≡ false → HasEntries t (map (retaken c) (undropped t.kept.entries))
 not_told t c h off = let is = untold t c h off in rw is h
 
 -- ---- the slot is filled again
@@ -120,8 +120,8 @@ filled id e es = insert_entry same_hash (insert_entry same_hash es id None) id (
 pub told_one : (c : Takes) (k : KeptTx) → same_hash c.txid k.txid ≡ true → same_froms k.inputs c.inputs ≡ true → retaken c k ≡ with_takes k c.flag c.fee c.inputs
 told_one c k e f = rw (e, f) refl
 
-filled_standing : (c : Takes) (e d : KeptTx) (es : List Slot) → StandRight es → IsDistinct same_hash (keys_of es) → option_flatten (lookup (same_hash c.txid) es) ≡ Some e
-    → same_froms e.inputs c.inputs ≡ true → d ≡ with_takes e c.flag c.fee c.inputs → standing (filled c.txid d es) ≡ map (retaken c) (standing es)
+filled_standing : (c : Takes) (e d : KeptTx) (es : List Slot) → StandUnderTxids es → IsDistinct same_hash (keys_of es) → option_flatten (lookup (same_hash c.txid) es) ≡ Some e
+    → same_froms e.inputs c.inputs ≡ true → d ≡ with_takes e c.flag c.fee c.inputs → undropped (filled c.txid d es) ≡ map (retaken c) (undropped es)
 unfolding IsDistinct
 filled_standing c e d [] right once is froms new = absurd (none_some e is)
 filled_standing c e d ((k, None) ∷ es) right once is froms new = elim (cases_Bool (same_hash c.txid k)) [
@@ -134,19 +134,19 @@ filled_standing c e d ((k, Some x) ∷ es) right once is froms new = elim (cases
       let same : x ≡ e = some_same x e said in
       let own : same_hash c.txid x.txid ≡ true = ap (same_hash c.txid) right.0 ∙ h in
       let first : retaken c x ≡ d = told_one c x own (ap (λ (y : KeptTx). same_froms y.inputs c.inputs) same ∙ froms) ∙ ap (λ (y : KeptTx). with_takes y c.flag c.fee c.inputs) same ∙ sym new in
-      let others = off_all c (standing es) (off_with c (standing es) (none_with c.txid k es (hash_same c.txid k h) right.1 once.0)) in
-      rw h (rw h (sym (ap (λ y. y ∷ map (retaken c) (standing es)) first ∙ ap (λ l. d ∷ l) others)))
+      let others = off_all c (undropped es) (off_with c (undropped es) (none_with c.txid k es (hash_same c.txid k h) right.1 once.0)) in
+      rw h (rw h (sym (ap (λ y. y ∷ map (retaken c) (undropped es)) first ∙ ap (λ l. d ∷ l) others)))
   | inr h ↦
       let said = rw h at is in
       let other : same_hash c.txid x.txid ≡ false = ap (same_hash c.txid) right.0 ∙ h in
       let first : retaken c x ≡ x = off_one c x (λ so. absurd (true≢false (sym so ∙ other))) in
-      rw h (rw h (ap (λ l. x ∷ l) (filled_standing c e d es right.1 once.1 said froms new) ∙ sym (ap (λ y. y ∷ map (retaken c) (standing es)) first)))
+      rw h (rw h (ap (λ l. x ∷ l) (filled_standing c e d es right.1 once.1 said froms new) ∙ sym (ap (λ y. y ∷ map (retaken c) (undropped es)) first)))
 ]
 
-filled_right : (id : Hash32) (d : KeptTx) (es : List Slot) → d.txid ≡ id → StandRight es → StandRight (filled id d es)
+filled_right : (id : Hash32) (d : KeptTx) (es : List Slot) → d.txid ≡ id → StandUnderTxids es → StandUnderTxids (filled id d es)
 filled_right id d [] is right = by (same_hash id id) refl
   where
-    by : (b : Bool) → same_hash id id ≡ b → StandRight (cond b ((id, Some d) ∷ []) ((id, None) ∷ insert_entry same_hash [] id (Some d)))
+    by : (b : Bool) → same_hash id id ≡ b → StandUnderTxids (cond b ((id, Some d) ∷ []) ((id, None) ∷ insert_entry same_hash [] id (Some d)))
     by true e = (is, tt)
     by false e = (tt, (is, tt))
 filled_right id d ((k, v) ∷ es) is right = elim (cases_Bool (same_hash id k)) [
@@ -223,19 +223,19 @@ there id v ((k, w) ∷ es) = elim (cases_Bool (same_hash id k)) [
   | inr h ↦ rw h (rw h (there id v es))
 ]
 
-pub told : (old new : Table) (c : Takes) (e d : KeptTx) (mid : List Slot) → IsTable old (standing old.kept.entries) → slot old c.txid ≡ Some e → is_of c (slot old c.txid) ≡ true
+pub told : (old new : Table) (c : Takes) (e d : KeptTx) (mid : List Slot) → HasEntries old (undropped old.kept.entries) → slot old c.txid ≡ Some e → is_of c (slot old c.txid) ≡ true
     → d ≡ with_takes e c.flag c.fee c.inputs → mid ≡ insert_entry same_hash old.kept.entries c.txid None → new.kept.entries ≡ insert_entry same_hash mid c.txid (Some d) → IsUnique same_hash new.kept
-    → new.spenders ≡ old.spenders → new.count ≡ old.count → new.bytes ≡ old.bytes → IsTable new (map (retaken c) (standing old.kept.entries))
+    → new.spenders ≡ old.spenders → new.count ≡ old.count → new.bytes ≡ old.bytes → HasEntries new (map (retaken c) (undropped old.kept.entries))
 told old new c e d mid t here of is first second once spenders count bytes =
     let froms : same_froms e.inputs c.inputs ≡ true = sym (ap (is_of c) here) ∙ of in
     let put : new.kept.entries ≡ filled c.txid d old.kept.entries = second ∙ ap (λ es. insert_entry same_hash es c.txid (Some d)) first in
-    let own : d.txid ≡ c.txid = ap (λ (x : KeptTx). x.txid) is ∙ named c.txid e (standing old.kept.entries) (sym (found_standing c.txid old.kept.entries t.right t.once) ∙ here) in
+    let own : d.txid ≡ c.txid = ap (λ (x : KeptTx). x.txid) is ∙ named c.txid e (undropped old.kept.entries) (sym (found_standing c.txid old.kept.entries t.right t.once) ∙ here) in
     record {
-      are = ap standing put ∙ filled_standing c e d old.kept.entries t.right t.once here froms is;
+      are = ap undropped put ∙ filled_standing c e d old.kept.entries t.right t.once here froms is;
       right = rw put (filled_right c.txid d old.kept.entries own t.right);
       once = once;
-      takers = λ o. ap (λ m. get same_outpoint m o) spenders ∙ t.takers o ∙ sym (takers_same o c (standing old.kept.entries));
-      alone = λ o. let sp = spenders in rw sp (alone_same o c (get same_outpoint old.spenders o) (standing old.kept.entries) (t.alone o));
-      count = count ∙ t.count ∙ sym (length-map (standing old.kept.entries) (retaken c));
-      bytes = bytes ∙ t.bytes ∙ sym (size_same c (standing old.kept.entries));
+      takers = λ o. ap (λ m. get same_outpoint m o) spenders ∙ t.takers o ∙ sym (takers_same o c (undropped old.kept.entries));
+      alone = λ o. let sp = spenders in rw sp (alone_same o c (get same_outpoint old.spenders o) (undropped old.kept.entries) (t.alone o));
+      count = count ∙ t.count ∙ sym (length-map (undropped old.kept.entries) (retaken c));
+      bytes = bytes ∙ t.bytes ∙ sym (size_same c (undropped old.kept.entries));
     }

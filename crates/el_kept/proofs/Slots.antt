@@ -19,14 +19,14 @@ use Rattle.el_chain.proofs.CoinLists.{same_gives, outpoints_equal}
 use Rattle.el_mempool.specs.declared.held.Source.{Source}
 use Rattle.el_mempool.specs.declared.held.KeptTx.{KeptTx}
 use Rattle.el_kept.specs.declared.table.Table.{Table}
-use Rattle.el_kept.specs.Tables.{standing, StandRight, by_txid, takes_from, is_source_of, IsTable, AreSame}
+use Rattle.el_kept.specs.Tables.{undropped, StandUnderTxids, by_txid, takes_from, is_source_of, HasEntries, HaveSameEntries}
 use Rattle.el_kept.proofs.Entries.{found_standing}
 use Rattle.el_kept.proofs.Entries.{copied_some}
 
 abbrev pub Slot : Type 0
 Slot = Hash32 × Option KeptTx
 
-standing_last : (es : List Slot) (k : Hash32) (e : KeptTx) → standing (es ++ (k, Some e) ∷ []) ≡ standing es ++ e ∷ []
+standing_last : (es : List Slot) (k : Hash32) (e : KeptTx) → undropped (es ++ (k, Some e) ∷ []) ≡ undropped es ++ e ∷ []
 standing_last [] k e = refl
 standing_last ((q, None) ∷ es) k e = standing_last es k e
 standing_last ((q, Some d) ∷ es) k e = ap (λ l. d ∷ l) (standing_last es k e)
@@ -80,21 +80,21 @@ sum_last (k ∷ ks) e =
     omega (arith, first, second, more)
 
 -- the table after the entry was put
-pub put_is : {S : Type 0} (old new : Table) (mid : IndexMap Hash32 (Option KeptTx) S) (e : KeptTx) → IsTable old (standing old.kept.entries)
+pub put_is : {S : Type 0} (old new : Table) (mid : IndexMap Hash32 (Option KeptTx) S) (e : KeptTx) → HasEntries old (undropped old.kept.entries)
     → AllByRecursion (λ (s : Source). get same_outpoint old.spenders s.from ≡ None) e.inputs
-    → standing mid.entries ≡ standing old.kept.entries → StandRight mid.entries → lookup (same_hash e.txid) mid.entries ≡ None → new.kept.entries ≡ insert_entry same_hash mid.entries e.txid (Some e) → IsUnique same_hash new.kept
+    → undropped mid.entries ≡ undropped old.kept.entries → StandUnderTxids mid.entries → lookup (same_hash e.txid) mid.entries ≡ None → new.kept.entries ≡ insert_entry same_hash mid.entries e.txid (Some e) → IsUnique same_hash new.kept
     → ((o : Outpoint) → get same_outpoint new.spenders o ≡ cond (list_any (is_source_of o) e.inputs) (Some e.txid) (get same_outpoint old.spenders o))
-    → new.count ≡ old.count + 1 → new.bytes ≡ old.bytes + length e.bytes → IsTable new (standing old.kept.entries ++ e ∷ [])
+    → new.count ≡ old.count + 1 → new.bytes ≡ old.bytes + length e.bytes → HasEntries new (undropped old.kept.entries ++ e ∷ [])
 put_is old new mid e t free before right absent put once takers count bytes =
     let last : new.kept.entries ≡ mid.entries ++ (e.txid, Some e) ∷ [] = put ∙ insert_entry-new same_hash mid e.txid (Some e) absent in
     record {
-      are = ap standing last ∙ standing_last mid.entries e.txid e ∙ ap (λ l. l ++ e ∷ []) before;
+      are = ap undropped last ∙ standing_last mid.entries e.txid e ∙ ap (λ l. l ++ e ∷ []) before;
       right = rw last (all_more (λ (x : Slot). IfSome x.1 (λ k. k.txid ≡ x.0)) mid.entries (e.txid, Some e) right refl);
       once = once;
-      takers = λ o. takers_more o (get same_outpoint old.spenders o) (get same_outpoint new.spenders o) (get same_outpoint old.spenders) (standing old.kept.entries) e refl (t.takers o) free (takers o);
-      alone = λ o. alone_more o (get same_outpoint new.spenders o) (get same_outpoint old.spenders) (standing old.kept.entries) e free (takers o) (t.alone o);
-      count = let n = t.count in omega (arith, count, n, length-append (standing old.kept.entries) (e ∷ []));
-      bytes = bytes ∙ ap (λ n. n + length e.bytes) t.bytes ∙ sym (sum_last (standing old.kept.entries) e);
+      takers = λ o. takers_more o (get same_outpoint old.spenders o) (get same_outpoint new.spenders o) (get same_outpoint old.spenders) (undropped old.kept.entries) e refl (t.takers o) free (takers o);
+      alone = λ o. alone_more o (get same_outpoint new.spenders o) (get same_outpoint old.spenders) (undropped old.kept.entries) e free (takers o) (t.alone o);
+      count = let n = t.count in omega (arith, count, n, length-append (undropped old.kept.entries) (e ∷ []));
+      bytes = bytes ∙ ap (λ n. n + length e.bytes) t.bytes ∙ sym (sum_last (undropped old.kept.entries) e);
     }
 
 -- one slot more for one kept one more
@@ -126,8 +126,8 @@ takers_step o xs i d now old first id lt is before =
     by false true = refl
     by false false = refl
 
-pub slot_is : (t : Table) (id : Hash32) (x : Option (Bor KeptTx)) (r b : Bool) → IsTable t (standing t.kept.entries) → option_copied x ≡ option_flatten (get same_hash t.kept id) → r ≡ is_some x → r ≡ b
-    → is_some (by_txid id (standing t.kept.entries)) ≡ b
+pub slot_is : (t : Table) (id : Hash32) (x : Option (Bor KeptTx)) (r b : Bool) → HasEntries t (undropped t.kept.entries) → option_copied x ≡ option_flatten (get same_hash t.kept id) → r ≡ is_some x → r ≡ b
+    → is_some (by_txid id (undropped t.kept.entries)) ≡ b
 slot_is t id x r b h says is last = ap is_some (sym (found_standing id t.kept.entries h.right h.once)) ∙ ap is_some (sym says) ∙ copied_some x ∙ sym is ∙ last
 
 pub not_there : (x : Option KeptTx) → is_some x ≡ false → x ≡ None
@@ -151,9 +151,9 @@ none_free taker [] h = refl
 none_free taker (s ∷ ss) h = let here = h.0 in rw here (none_free taker ss h.1)
 
 -- a table with the same entries and takers
-pub same_table : (t u : Table) (ks : List KeptTx) → AreSame t u → IsTable t ks → IsTable u ks
+pub same_table : (t u : Table) (ks : List KeptTx) → HaveSameEntries t u → HasEntries t ks → HasEntries u ks
 same_table t u ks same h = record {
-  are = ap standing same.kept ∙ h.are;
+  are = ap undropped same.kept ∙ h.are;
   right = let is = same.kept in rw is h.right;
   once = same.kept_once h.once;
   takers = λ o. ap (lookup (same_outpoint o)) same.spenders ∙ h.takers o;
@@ -163,15 +163,15 @@ same_table t u ks same h = record {
   bytes = same.bytes ∙ h.bytes;
 }
 
-pub own_table : (t : Table) (ks : List KeptTx) → IsTable t ks → IsTable t (standing t.kept.entries)
+pub own_table : (t : Table) (ks : List KeptTx) → HasEntries t ks → HasEntries t (undropped t.kept.entries)
 own_table t ks h = let is = h.are in rw is h
 
-pub still_free : (t u : Table) (ss : List Source) → AreSame t u → AllByRecursion (λ (s : Source). get same_outpoint t.spenders s.from ≡ None) ss
+pub still_free : (t u : Table) (ss : List Source) → HaveSameEntries t u → AllByRecursion (λ (s : Source). get same_outpoint t.spenders s.from ≡ None) ss
     → AllByRecursion (λ (s : Source). get same_outpoint u.spenders s.from ≡ None) ss
 still_free t u ss same free =
     all_weaker (λ (s : Source). get same_outpoint t.spenders s.from ≡ None) (λ (s : Source). get same_outpoint u.spenders s.from ≡ None) ss
     (λ s none. ap (lookup (same_outpoint s.from)) same.spenders ∙ none) free
 
-pub after_put : {A E : Type 0} (r : Result A E) (t u : Table) (ks : List KeptTx) → IsTable t (standing t.kept.entries) → OnOk r (IsTable u ks) → OnErr r (AreSame t u) → IsTable u (standing u.kept.entries)
+pub after_put : {A E : Type 0} (r : Result A E) (t u : Table) (ks : List KeptTx) → HasEntries t (undropped t.kept.entries) → OnOk r (HasEntries u ks) → OnErr r (HaveSameEntries t u) → HasEntries u (undropped u.kept.entries)
 after_put (Ok x) t u ks h put same = own_table u ks put
-after_put (Err e) t u ks h put same = own_table u (standing t.kept.entries) (same_table t u (standing t.kept.entries) same h)
+after_put (Err e) t u ks h put same = own_table u (undropped t.kept.entries) (same_table t u (undropped t.kept.entries) same h)

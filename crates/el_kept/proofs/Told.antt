@@ -33,8 +33,8 @@ use Rattle.el_chain.specs.History.{funds}
 use Rattle.el_mempool.specs.declared.held.KeptTx.{KeptTx}
 use Rattle.el_mempool.specs.Sift.{output_held, is_taken, held_by}
 use Rattle.el_mempool.specs.Refusals.{kept_with}
-use Rattle.el_mempool.specs.Unconfirmed.{shown_cmp, by_shown, in_order, put, has_script, concerns, entry, made, pool_history, pool_unspent}
-use Rattle.el_mempool.specs.Standing.{kept_tx, StandsFor}
+use Rattle.el_mempool.specs.Unconfirmed.{shown_cmp, by_shown, in_order, put, has_script, concerns_script, entry, made, pool_history, pool_unspent}
+use Rattle.el_mempool.specs.Standing.{kept_tx, KeptStandFor}
 use Rattle.el_mempool.proofs.Confirmed.{hash_self, hash_same}
 use Rattle.el_mempool.proofs.Named.{all_named}
 use Rattle.el_mempool.proofs.Ordered.{InOrder, ordered, all_in_order}
@@ -45,8 +45,8 @@ use Rattle.el_mempool.proofs.ShownOrder.{AreBytes, reversed_txid, reversed_lengt
 use Rattle.el_mempool.proofs.Unspent.{is_listed, filter_none, unfunded}
 use Rattle.el_kept.specs.declared.listing.Listing.{Listing}
 use Rattle.el_kept.specs.declared.table.Table.{Table}
-use Rattle.el_kept.specs.Tables.{standing, by_txid, slot, slot_at_script, takes_from, IsTable}
-use Rattle.el_kept.specs.Listings.{coin_of, listing_cmp, txid_of, listing, lists, is_in, AreListed, least, greatest, under, entries_listed, seen, outs_from}
+use Rattle.el_kept.specs.Tables.{undropped, by_txid, slot, slot_at_script, takes_from, HasEntries}
+use Rattle.el_kept.specs.Listings.{unconfirmed_coin, listing_cmp, txid_of, listing, is_listing_of, is_in, AreListed, least_listing, greatest_listing, listings_under, entries_listed, pool_entry, outs_from}
 use Rattle.el_kept.proofs.Entries.{entry_with, found_is, taker_is}
 use Rattle.el_kept.proofs.Listed.{listed_is}
 
@@ -62,7 +62,7 @@ the_listing script reversed = record { script = record { 0 = script }; reversed 
 -- two listings compare equal only where they are one
 equal_listings : (a b : Listing) → is_eq (listing_cmp a b) ≡ true → a ≡ b
 equal_listings a b h =
-    let says : lists a.script (txid_of a) b ≡ true =
+    let says : is_listing_of a.script (txid_of a) b ≡ true =
     sym (listed_is a.script (txid_of a) b)
     ∙ ap (λ r. is_eq (listing_cmp (the_listing a.script.0 r) b)) (reverse-reverse a.reversed) ∙ h in
     let parts = and_parts (same_hash a.script b.script) (same_hash (txid_of a) (txid_of b)) says in
@@ -155,12 +155,12 @@ scripts_compare : (a b : Hash32) → is_eq (slice_cmp nat_cmp a.0 b.0) ≡ same_
 scripts_compare a b = sym (texts_ties a.0 b.0)
 
 -- the range runs forward
-pub least_first : (s : Hash32) → is_gt (listing_cmp (least s) (greatest s)) ≡ false
+pub least_first : (s : Hash32) → is_gt (listing_cmp (least_listing s) (greatest_listing s)) ≡ false
 least_first s = ap (λ c. is_gt (ordering_then c (slice_cmp nat_cmp (replicate 32 0) (replicate 32 255))))
     ((Equal-is (slice_cmp nat_cmp s.0 s.0)).0 (scripts_compare s s ∙ hash_self s s refl))
 
 between_other : (s : Hash32) (q : Listing) → same_hash s q.script ≡ false
-    → range_contains listing_cmp (Included (least s)) (Included (greatest s)) q ≡ false
+    → range_contains listing_cmp (Included (least_listing s)) (Included (greatest_listing s)) q ≡ false
 between_other s q off =
     by (slice_cmp nat_cmp s.0 q.script.0) (slice_cmp nat_cmp (replicate 32 0) q.reversed)
     (slice_cmp nat_cmp (replicate 32 255) q.reversed) (scripts_compare s q.script ∙ off)
@@ -171,7 +171,7 @@ between_other s q off =
     by Greater x y e = refl
 
 between_own : (s : Hash32) (q : Listing) → same_hash s q.script ≡ true → length q.reversed ≡ 32 → AreBytes q.reversed
-    → range_contains listing_cmp (Included (least s)) (Included (greatest s)) q ≡ true
+    → range_contains listing_cmp (Included (least_listing s)) (Included (greatest_listing s)) q ≡ true
 between_own s q own size bytes =
     by (slice_cmp nat_cmp s.0 q.script.0) (slice_cmp nat_cmp (replicate 32 0) q.reversed)
     (slice_cmp nat_cmp (replicate 32 255) q.reversed) (scripts_compare s q.script ∙ own) (least_below 32 q.reversed size)
@@ -300,7 +300,7 @@ apart_off p id t (u ∷ us) e h =
 
 -- the kept one with a txid concerns a script hash
 slot_concerns : (chain : Chain) (all : List Tx) (s : List ℕ) (id : Hash32) (ts : List Tx) → KeysApart txid ts
-    → slot_at_script s (option_map (kept_tx chain all) (kept_with id ts)) ≡ list_any (λ t. concerns chain all s t && same_hash (txid t) id) ts
+    → slot_at_script s (option_map (kept_tx chain all) (kept_with id ts)) ≡ list_any (λ t. concerns_script chain all s t && same_hash (txid t) id) ts
 slot_concerns chain all s id [] h = refl
 slot_concerns chain all s id (t ∷ ts) h = by (same_hash id (txid t)) refl (slot_concerns chain all s id ts h.1)
   where
@@ -313,19 +313,19 @@ slot_concerns chain all s id (t ∷ ts) h = by (same_hash id (txid t)) refl (slo
     off_last false b = refl
 
     by : (b : Bool) → same_hash id (txid t) ≡ b
-        → slot_at_script s (option_map (kept_tx chain all) (kept_with id ts)) ≡ list_any (λ u. concerns chain all s u && same_hash (txid u) id) ts
+        → slot_at_script s (option_map (kept_tx chain all) (kept_with id ts)) ≡ list_any (λ u. concerns_script chain all s u && same_hash (txid u) id) ts
         → slot_at_script s (option_map (kept_tx chain all) (cond b (Some t) (kept_with id ts)))
-        ≡ ((concerns chain all s t && same_hash (txid t) id) || list_any (λ u. concerns chain all s u && same_hash (txid u) id) ts)
+        ≡ ((concerns_script chain all s t && same_hash (txid t) id) || list_any (λ u. concerns_script chain all s u && same_hash (txid u) id) ts)
     by true e more =
         let own : same_hash (txid t) id ≡ true = hash_self (txid t) id (sym (hash_same id (txid t) e)) in
-        let rest = apart_off (concerns chain all s) id t ts (hash_same id (txid t) e) h.0 in
-        entry_at chain all s t ∙ last (concerns chain all s t)
-        ∙ ap (λ b. (concerns chain all s t && b) || false) (sym own)
-        ∙ ap (λ b. (concerns chain all s t && same_hash (txid t) id) || b) (sym rest)
+        let rest = apart_off (concerns_script chain all s) id t ts (hash_same id (txid t) e) h.0 in
+        entry_at chain all s t ∙ last (concerns_script chain all s t)
+        ∙ ap (λ b. (concerns_script chain all s t && b) || false) (sym own)
+        ∙ ap (λ b. (concerns_script chain all s t && same_hash (txid t) id) || b) (sym rest)
     by false e more =
         let own : same_hash (txid t) id ≡ false = false_from_ne_true (same_hash (txid t) id) (λ x. true≢false (sym (hash_self id (txid t) (sym (hash_same (txid t) id x))) ∙ e)) in
-        more ∙ off_last (concerns chain all s t) (list_any (λ u. concerns chain all s u && same_hash (txid u) id) ts)
-        ∙ ap (λ b. (concerns chain all s t && b) || list_any (λ u. concerns chain all s u && same_hash (txid u) id) ts) (sym own)
+        more ∙ off_last (concerns_script chain all s t) (list_any (λ u. concerns_script chain all s u && same_hash (txid u) id) ts)
+        ∙ ap (λ b. (concerns_script chain all s t && b) || list_any (λ u. concerns_script chain all s u && same_hash (txid u) id) ts) (sym own)
 
 -- a listing with the txid of a kept one
 bytes_of : (p : Tx → Bool) (q : Listing) (ts : List Tx) → list_any (λ t. p t && same_hash (txid t) (txid_of q)) ts ≡ true
@@ -350,17 +350,17 @@ pub at_end : {X : Type 0} (f : List Listing → List X) (found : List X) (left :
 at_end f found left whole none empty before =
     sym (append-nil found) ∙ ap (λ l. found ++ l) (sym empty) ∙ ap (λ l. found ++ f l) (sym none) ∙ before
 
-module _ (t : Table) (ls : BTreeSet Listing) (chain : Chain) (kept : List Tx) (s : Hash32) (is_table : IsTable t (standing t.kept.entries))
-    (are_listed : AreListed ls (standing t.kept.entries)) (stands : StandsFor (standing t.kept.entries) chain kept)
+module _ (t : Table) (ls : BTreeSet Listing) (chain : Chain) (kept : List Tx) (s : Hash32) (is_table : HasEntries t (undropped t.kept.entries))
+    (are_listed : AreListed ls (undropped t.kept.entries)) (stands : KeptStandFor (undropped t.kept.entries) chain kept)
     (sorted : IsStrictlySortedBy listing_cmp (keys ls)) where
   apart : KeysApart txid kept
   apart = apart_from kept stands.once
 
   -- those that concern the script hash, by their shown txids
   abbrev concerned : List Tx
-  concerned = filter (concerns chain kept s.0) (by_shown kept)
+  concerned = filter (concerns_script chain kept s.0) (by_shown kept)
 
-  in_listings : (q : Listing) → is_in ls q ≡ list_any (λ u. concerns chain kept q.script.0 u && same_hash (txid u) (txid_of q)) kept
+  in_listings : (q : Listing) → is_in ls q ≡ list_any (λ u. concerns_script chain kept q.script.0 u && same_hash (txid u) (txid_of q)) kept
   in_listings q =
       are_listed q ∙ ap (λ ks. slot_at_script q.script.0 (by_txid (txid_of q) ks)) stands.are
       ∙ ap (slot_at_script q.script.0) (entry_with (txid_of q) chain kept kept) ∙ slot_concerns chain kept q.script.0 (txid_of q) kept apart
@@ -374,18 +374,18 @@ module _ (t : Table) (ls : BTreeSet Listing) (chain : Chain) (kept : List Tx) (s
       by Greater = refl
 
   in_concerned : (q : Listing) → is_among q (map (key s) concerned)
-      ≡ list_any (λ u. concerns chain kept s.0 u && (same_hash s q.script && same_hash (txid u) (txid_of q))) kept
+      ≡ list_any (λ u. concerns_script chain kept s.0 u && (same_hash s q.script && same_hash (txid u) (txid_of q))) kept
   in_concerned q =
-      any_mapped (key s) (concerns chain kept s.0) q (by_shown kept)
-      ∙ any_in_order shown_cmp (λ u. concerns chain kept s.0 u && is_eq (listing_cmp q (key s u))) kept
-      ∙ any_alike (λ u. concerns chain kept s.0 u && is_eq (listing_cmp q (key s u)))
-      (λ u. concerns chain kept s.0 u && (same_hash s q.script && same_hash (txid u) (txid_of q))) kept
-      (λ u. ap (λ b. concerns chain kept s.0 u && b) (turned q (key s u) ∙ listed_is s (txid u) q))
+      any_mapped (key s) (concerns_script chain kept s.0) q (by_shown kept)
+      ∙ any_in_order shown_cmp (λ u. concerns_script chain kept s.0 u && is_eq (listing_cmp q (key s u))) kept
+      ∙ any_alike (λ u. concerns_script chain kept s.0 u && is_eq (listing_cmp q (key s u)))
+      (λ u. concerns_script chain kept s.0 u && (same_hash s q.script && same_hash (txid u) (txid_of q))) kept
+      (λ u. ap (λ b. concerns_script chain kept s.0 u && b) (turned q (key s u) ∙ listed_is s (txid u) q))
 
-  same_members : (q : Listing) → is_among q (under s ls) ≡ is_among q (map (key s) concerned)
+  same_members : (q : Listing) → is_among q (listings_under s ls) ≡ is_among q (map (key s) concerned)
   same_members q =
-      any_filter q (range_contains listing_cmp (Included (least s)) (Included (greatest s))) (keys ls)
-      ∙ ap (λ b. range_contains listing_cmp (Included (least s)) (Included (greatest s)) q && b) (in_listings q)
+      any_filter q (range_contains listing_cmp (Included (least_listing s)) (Included (greatest_listing s))) (keys ls)
+      ∙ ap (λ b. range_contains listing_cmp (Included (least_listing s)) (Included (greatest_listing s)) q && b) (in_listings q)
       ∙ by (same_hash s q.script) refl ∙ sym (in_concerned q)
     where
       never : (a b : Bool) → (a && (false && b)) ≡ false
@@ -393,36 +393,36 @@ module _ (t : Table) (ls : BTreeSet Listing) (chain : Chain) (kept : List Tx) (s
       never false b = refl
 
       by : (b : Bool) → same_hash s q.script ≡ b
-          → (range_contains listing_cmp (Included (least s)) (Included (greatest s)) q && list_any (λ u. concerns chain kept q.script.0 u && same_hash (txid u) (txid_of q)) kept)
-          ≡ list_any (λ u. concerns chain kept s.0 u && (same_hash s q.script && same_hash (txid u) (txid_of q))) kept
+          → (range_contains listing_cmp (Included (least_listing s)) (Included (greatest_listing s)) q && list_any (λ u. concerns_script chain kept q.script.0 u && same_hash (txid u) (txid_of q)) kept)
+          ≡ list_any (λ u. concerns_script chain kept s.0 u && (same_hash s q.script && same_hash (txid u) (txid_of q))) kept
       by false off =
-          ap (λ b. b && list_any (λ u. concerns chain kept q.script.0 u && same_hash (txid u) (txid_of q)) kept) (between_other s q off)
-          ∙ sym (any_never (λ u. concerns chain kept s.0 u && (same_hash s q.script && same_hash (txid u) (txid_of q))) kept
-          (λ u. ap (λ b. concerns chain kept s.0 u && (b && same_hash (txid u) (txid_of q))) off ∙ never (concerns chain kept s.0 u) (same_hash (txid u) (txid_of q))))
+          ap (λ b. b && list_any (λ u. concerns_script chain kept q.script.0 u && same_hash (txid u) (txid_of q)) kept) (between_other s q off)
+          ∙ sym (any_never (λ u. concerns_script chain kept s.0 u && (same_hash s q.script && same_hash (txid u) (txid_of q))) kept
+          (λ u. ap (λ b. concerns_script chain kept s.0 u && (b && same_hash (txid u) (txid_of q))) off ∙ never (concerns_script chain kept s.0 u) (same_hash (txid u) (txid_of q))))
       by true own =
-          inner (list_any (λ u. concerns chain kept q.script.0 u && same_hash (txid u) (txid_of q)) kept) refl
-          ∙ ap (λ (x : Hash32). list_any (λ u. concerns chain kept x.0 u && same_hash (txid u) (txid_of q)) kept) (sym (hash_same s q.script own))
-          ∙ any_alike (λ u. concerns chain kept s.0 u && same_hash (txid u) (txid_of q))
-          (λ u. concerns chain kept s.0 u && (same_hash s q.script && same_hash (txid u) (txid_of q))) kept
-          (λ u. ap (λ b. concerns chain kept s.0 u && (b && same_hash (txid u) (txid_of q))) (sym own))
+          inner (list_any (λ u. concerns_script chain kept q.script.0 u && same_hash (txid u) (txid_of q)) kept) refl
+          ∙ ap (λ (x : Hash32). list_any (λ u. concerns_script chain kept x.0 u && same_hash (txid u) (txid_of q)) kept) (sym (hash_same s q.script own))
+          ∙ any_alike (λ u. concerns_script chain kept s.0 u && same_hash (txid u) (txid_of q))
+          (λ u. concerns_script chain kept s.0 u && (same_hash s q.script && same_hash (txid u) (txid_of q))) kept
+          (λ u. ap (λ b. concerns_script chain kept s.0 u && (b && same_hash (txid u) (txid_of q))) (sym own))
         where
-          inner : (b : Bool) → list_any (λ u. concerns chain kept q.script.0 u && same_hash (txid u) (txid_of q)) kept ≡ b
-              → (range_contains listing_cmp (Included (least s)) (Included (greatest s)) q && b) ≡ b
+          inner : (b : Bool) → list_any (λ u. concerns_script chain kept q.script.0 u && same_hash (txid u) (txid_of q)) kept ≡ b
+              → (range_contains listing_cmp (Included (least_listing s)) (Included (greatest_listing s)) q && b) ≡ b
           inner true is =
-              let bytes = bytes_of (concerns chain kept q.script.0) q kept is in
+              let bytes = bytes_of (concerns_script chain kept q.script.0) q kept is in
               ap (λ b. b && true) (between_own s q own bytes.0 bytes.1)
-          inner false is = drop_false (range_contains listing_cmp (Included (least s)) (Included (greatest s)) q)
+          inner false is = drop_false (range_contains listing_cmp (Included (least_listing s)) (Included (greatest_listing s)) q)
             where
               drop_false : (b : Bool) → (b && false) ≡ false
               drop_false true = refl
               drop_false false = refl
 
-  listings_are : under s ls ≡ map (key s) concerned
+  listings_are : listings_under s ls ≡ map (key s) concerned
   listings_are =
-      sorted_same (under s ls) (map (key s) concerned)
-      (IsStrictlySortedBy-filter listing_cmp (range_contains listing_cmp (Included (least s)) (Included (greatest s))) (keys ls) sorted)
+      sorted_same (listings_under s ls) (map (key s) concerned)
+      (IsStrictlySortedBy-filter listing_cmp (range_contains listing_cmp (Included (least_listing s)) (Included (greatest_listing s))) (keys ls) sorted)
       (sorted_mapped (key s) concerned
-      (IsStrictlySortedBy-filter (λ u v. listing_cmp (key s u) (key s v)) (concerns chain kept s.0) (by_shown kept)
+      (IsStrictlySortedBy-filter (λ u v. listing_cmp (key s u) (key s v)) (concerns_script chain kept s.0) (by_shown kept)
       (keys_sorted s (by_shown kept) (ordered shown_cmp shown_total kept) (keys_in_order kept apart))))
       same_members
 
@@ -432,7 +432,7 @@ module _ (t : Table) (ls : BTreeSet Listing) (chain : Chain) (kept : List Tx) (s
       ∙ found_is t chain kept (txid u) is_table stands ∙ ap (option_map (kept_tx chain kept)) is
 
   all_here : AllByRecursion (λ (u : Tx). kept_with (txid u) kept ≡ Some u) concerned
-  all_here = all_filter (λ (u : Tx). kept_with (txid u) kept ≡ Some u) (concerns chain kept s.0) (by_shown kept)
+  all_here = all_filter (λ (u : Tx). kept_with (txid u) kept ≡ Some u) (concerns_script chain kept s.0) (by_shown kept)
       (all_in_order shown_cmp (λ (u : Tx). kept_with (txid u) kept ≡ Some u) kept (own_found kept apart))
 
   each_here : (us : List Tx) → AllByRecursion (λ (u : Tx). kept_with (txid u) kept ≡ Some u) us → entries_listed t (map (key s) us) ≡ map (kept_tx chain kept) us
@@ -440,15 +440,15 @@ module _ (t : Table) (ls : BTreeSet Listing) (chain : Chain) (kept : List Tx) (s
   each_here (u ∷ us) h =
       ap (λ x. option_to_list x ++ entries_listed t (map (key s) us)) (entry_here u h.0) ∙ ap (λ l. kept_tx chain kept u ∷ l) (each_here us h.1)
 
-  entries_are : entries_listed t (under s ls) ≡ map (kept_tx chain kept) concerned
+  entries_are : entries_listed t (listings_under s ls) ≡ map (kept_tx chain kept) concerned
   entries_are = ap (entries_listed t) listings_are ∙ each_here concerned all_here
 
-  seen_are : (us : List Tx) → map seen (map (kept_tx chain kept) us) ≡ map (entry chain kept) us
+  seen_are : (us : List Tx) → map pool_entry (map (kept_tx chain kept) us) ≡ map (entry chain kept) us
   seen_are [] = refl
   seen_are (u ∷ us) = ap (λ l. entry chain kept u ∷ l) (seen_are us)
 
-  pub history_told : map seen (entries_listed t (under s ls)) ≡ pool_history chain kept s.0
-  history_told = ap (map seen) entries_are ∙ seen_are concerned
+  pub history_told : map pool_entry (entries_listed t (listings_under s ls)) ≡ pool_history chain kept s.0
+  history_told = ap (map pool_entry) entries_are ∙ seen_are concerned
 
   taken_by : (o : Outpoint) → is_some (get same_outpoint t.spenders o) ≡ is_taken o kept
   taken_by o =
@@ -462,27 +462,27 @@ module _ (t : Table) (ls : BTreeSet Listing) (chain : Chain) (kept : List Tx) (s
       rw here (by (bytes_eq (script_hash_of o) s.0 && not (is_taken (record { txid = id; index = n }) kept)) (outs_are id (n + 1) os))
     where
       by : (b : Bool) → outs_from t s id (n + 1) (map output_held os) ≡ filter (is_listed kept s.0) (coins_made id 0 (n + 1) os)
-          → cond b (coin_of (record { txid = id; index = n }) (output_held o) ∷ outs_from t s id (n + 1) (map output_held os)) (outs_from t s id (n + 1) (map output_held os))
+          → cond b (unconfirmed_coin (record { txid = id; index = n }) (output_held o) ∷ outs_from t s id (n + 1) (map output_held os)) (outs_from t s id (n + 1) (map output_held os))
           ≡ cond b (coin_made id 0 n o ∷ filter (is_listed kept s.0) (coins_made id 0 (n + 1) os)) (filter (is_listed kept s.0) (coins_made id 0 (n + 1) os))
       by true more = ap (λ l. coin_made id 0 n o ∷ l) more
       by false more = more
 
-  each_outs : (us : List Tx) → flat_map (λ (k : KeptTx). outs_from t s k.txid 0 k.outputs) (map (kept_tx chain kept) (filter (concerns chain kept s.0) us))
+  each_outs : (us : List Tx) → flat_map (λ (k : KeptTx). outs_from t s k.txid 0 k.outputs) (map (kept_tx chain kept) (filter (concerns_script chain kept s.0) us))
       ≡ filter (is_listed kept s.0) (flat_map made us)
   each_outs [] = refl
-  each_outs (u ∷ us) = by (concerns chain kept s.0 u) refl (each_outs us) ∙ sym (filter-append (is_listed kept s.0) (made u) (flat_map made us))
+  each_outs (u ∷ us) = by (concerns_script chain kept s.0 u) refl (each_outs us) ∙ sym (filter-append (is_listed kept s.0) (made u) (flat_map made us))
     where
-      by : (b : Bool) → concerns chain kept s.0 u ≡ b
-          → flat_map (λ (k : KeptTx). outs_from t s k.txid 0 k.outputs) (map (kept_tx chain kept) (filter (concerns chain kept s.0) us)) ≡ filter (is_listed kept s.0) (flat_map made us)
-          → flat_map (λ (k : KeptTx). outs_from t s k.txid 0 k.outputs) (map (kept_tx chain kept) (cond b (u ∷ filter (concerns chain kept s.0) us) (filter (concerns chain kept s.0) us)))
+      by : (b : Bool) → concerns_script chain kept s.0 u ≡ b
+          → flat_map (λ (k : KeptTx). outs_from t s k.txid 0 k.outputs) (map (kept_tx chain kept) (filter (concerns_script chain kept s.0) us)) ≡ filter (is_listed kept s.0) (flat_map made us)
+          → flat_map (λ (k : KeptTx). outs_from t s k.txid 0 k.outputs) (map (kept_tx chain kept) (cond b (u ∷ filter (concerns_script chain kept s.0) us) (filter (concerns_script chain kept s.0) us)))
           ≡ filter (is_listed kept s.0) (made u) ++ filter (is_listed kept s.0) (flat_map made us)
       by true e more =
-          ap (λ l. l ++ flat_map (λ (k : KeptTx). outs_from t s k.txid 0 k.outputs) (map (kept_tx chain kept) (filter (concerns chain kept s.0) us))) (outs_are (txid u) 0 u.outputs)
+          ap (λ l. l ++ flat_map (λ (k : KeptTx). outs_from t s k.txid 0 k.outputs) (map (kept_tx chain kept) (filter (concerns_script chain kept s.0) us))) (outs_are (txid u) 0 u.outputs)
           ∙ ap (λ l. filter (is_listed kept s.0) (made u) ++ l) more
       by false e more =
           let unfounded = (or_parts (funds s.0 u) (list_any (has_script s.0) (held_by chain kept u.inputs)) e).0 in
           let none = filter_none (is_listed kept s.0) (made u) (unfunded kept s.0 (txid u) 0 u.outputs unfounded) in
           more ∙ ap (λ l. l ++ filter (is_listed kept s.0) (flat_map made us)) (sym none)
 
-  pub unspent_told : flat_map (λ (k : KeptTx). outs_from t s k.txid 0 k.outputs) (entries_listed t (under s ls)) ≡ pool_unspent kept s.0
+  pub unspent_told : flat_map (λ (k : KeptTx). outs_from t s k.txid 0 k.outputs) (entries_listed t (listings_under s ls)) ≡ pool_unspent kept s.0
   unspent_told = ap (flat_map (λ (k : KeptTx). outs_from t s k.txid 0 k.outputs)) entries_are ∙ each_outs (by_shown kept)

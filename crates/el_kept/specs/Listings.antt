@@ -35,8 +35,8 @@ abbrev pub listing : Hash32 → Hash32 → Listing
 listing script id = record { script = script; reversed = reverse id.0 }
 
 -- the listing is that of the transaction with that txid under that script hash
-abbrev pub lists : Hash32 → Hash32 → Listing → Bool
-lists script id l = same_hash script l.script && same_hash id (txid_of l)
+abbrev pub is_listing_of : Hash32 → Hash32 → Listing → Bool
+is_listing_of script id l = same_hash script l.script && same_hash id (txid_of l)
 
 -- it is one of these
 abbrev pub is_in : BTreeSet Listing → Listing → Bool
@@ -47,28 +47,29 @@ abbrev pub AreListed : BTreeSet Listing → List KeptTx → Type 0
 AreListed ls ks = (l : Listing) → is_in ls l ≡ slot_at_script l.script.0 (by_txid (txid_of l) ks)
 
 -- the least listing under the script hash
-abbrev pub least : Hash32 → Listing
-least script = record { script = script; reversed = replicate 32 0 }
+abbrev pub least_listing : Hash32 → Listing
+least_listing script = record { script = script; reversed = replicate 32 0 }
 
 -- the greatest listing under the script hash
-abbrev pub greatest : Hash32 → Listing
-greatest script = record { script = script; reversed = replicate 32 255 }
+abbrev pub greatest_listing : Hash32 → Listing
+greatest_listing script = record { script = script; reversed = replicate 32 255 }
 
 -- the listings under the script hash, in order
-abbrev pub under : Hash32 → BTreeSet Listing → List Listing
-under script ls = keys_between listing_cmp (Included (least script)) (Included (greatest script)) ls
+abbrev pub listings_under : Hash32 → BTreeSet Listing → List Listing
+listings_under script ls = keys_between listing_cmp (Included (least_listing script))
+    (Included (greatest_listing script)) ls
 
 -- the entries that are listed, by a look-up
 abbrev pub entries_listed : Table → List Listing → List KeptTx
 entries_listed t ls = flat_map (λ (l : Listing). option_to_list (slot t (txid_of l))) ls
 
 -- what clients see of an entry
-abbrev pub seen : KeptTx → PoolEntry
-seen k = record { txid = k.txid; flag = k.flag; fee = k.fee }
+abbrev pub pool_entry : KeptTx → PoolEntry
+pool_entry k = record { txid = k.txid; flag = k.flag; fee = k.fee }
 
 -- the output as a coin, with height 0
-abbrev pub coin_of : Outpoint → Held → Coin
-coin_of o h = record { outpoint = o; value = h.value; script = h.script; height = 0 }
+abbrev pub unconfirmed_coin : Outpoint → Held → Coin
+unconfirmed_coin o h = record { outpoint = o; value = h.value; script = h.script; height = 0 }
 
 -- the output has the script hash, and nobody takes it, by a look-up
 abbrev pub is_out : Table → Hash32 → Outpoint → Held → Bool
@@ -79,5 +80,5 @@ abbrev pub outs_from : Table → Hash32 → Hash32 → ℕ → List Held → Lis
 outs_from t script id n [] = []
 outs_from t script id n (h ∷ hs) =
     if is_out t script (record { txid = id; index = n }) h
-    then coin_of (record { txid = id; index = n }) h ∷ outs_from t script id (n + 1) hs
+    then unconfirmed_coin (record { txid = id; index = n }) h ∷ outs_from t script id (n + 1) hs
     else outs_from t script id (n + 1) hs

@@ -10,18 +10,18 @@ use Rattle.el_mempool.specs.declared.held.Held.{Held}
 use Rattle.el_mempool.specs.declared.held.Source.{Source}
 use Rattle.el_mempool.specs.declared.held.KeptTx.{KeptTx}
 use Rattle.el_mempool.specs.Sift.{coin_named, output_among}
-use Rattle.el_mempool.specs.Standing.{StandsFor}
+use Rattle.el_mempool.specs.Standing.{KeptStandFor}
 use Rattle.el_kept.specs.declared.found.FoundOutput.{FoundOutput}
 use Rattle.el_kept.specs.declared.table.Table.{Table}
-use Rattle.el_kept.specs.Tables.{IsTable}
+use Rattle.el_kept.specs.Tables.{HasEntries}
 
 -- what the inputs take together, in satoshi
 abbrev pub total_sources : List Source → ℕ
 total_sources ss = sum_by (λ (s : Source). s.held.value) ss
 
 -- what the output of a kept transaction holds that the outpoint names, by a look-up
-abbrev pub output_at : Table → Outpoint → Option Held
-output_at t o =
+abbrev pub kept_output : Table → Outpoint → Option Held
+kept_output t o =
     option_and_then (λ (k : KeptTx). slice_get k.outputs o.index)
     (option_flatten (get same_hash t.kept o.txid))
 
@@ -32,10 +32,10 @@ found_by None (Some h) = Some (record { held = h; is_kept = false })
 found_by None None = None
 
 -- the table stands for these transactions over the chain
-pub record IsOver (t : Table) (chain : Chain) (kept : List Tx) : Type 0 where
+pub record IsTableOver (t : Table) (chain : Chain) (kept : List Tx) : Type 0 where
   pub entries : List KeptTx
-  pub table : IsTable t entries
-  pub stands : StandsFor entries chain kept
+  pub table : HasEntries t entries
+  pub stands : KeptStandFor entries chain kept
 
 -- no output of a kept one is a coin of the chain
 abbrev pub AreUnspent : Chain → List Tx → Type 0

@@ -15,13 +15,13 @@ use Rattle.el_kept.specs.declared.table.Table.{Table}
 use Rattle.el_kept.specs.declared.retaking.Takes.{Takes}
 
 -- the transactions that stand in the table; None stands where one was dropped
-abbrev pub standing : List (Hash32 × Option KeptTx) → List KeptTx
-standing [] = []
-standing (e ∷ es) = option_to_list e.1 ++ standing es
+abbrev pub undropped : List (Hash32 × Option KeptTx) → List KeptTx
+undropped [] = []
+undropped (e ∷ es) = option_to_list e.1 ++ undropped es
 
 -- each stands under its own txid
-abbrev pub StandRight : List (Hash32 × Option KeptTx) → Type 0
-StandRight es = AllByRecursion (λ (e : Hash32 × Option KeptTx). IfSome e.1 (λ k. k.txid ≡ e.0)) es
+abbrev pub StandUnderTxids : List (Hash32 × Option KeptTx) → Type 0
+StandUnderTxids es = AllByRecursion (λ (e : Hash32 × Option KeptTx). IfSome e.1 (λ k. k.txid ≡ e.0)) es
 
 -- the entry with that txid
 abbrev pub by_txid : Hash32 → List KeptTx → Option KeptTx
@@ -44,8 +44,8 @@ abbrev pub has : List Hash32 → Hash32 → Bool
 has ids x = list_any (same_hash x) ids
 
 -- the entries with none of these txids
-abbrev pub without : List Hash32 → List KeptTx → List KeptTx
-without ids ks = filter (λ (k : KeptTx). not (has ids k.txid)) ks
+abbrev pub without_txids : List Hash32 → List KeptTx → List KeptTx
+without_txids ids ks = filter (λ (k : KeptTx). not (has ids k.txid)) ks
 
 -- the entry that stands under a txid
 abbrev pub slot : Table → Hash32 → Option KeptTx
@@ -58,9 +58,9 @@ slot_at_script s (Some k) = is_at_script s k
 
 -- The table has these entries in order of arrival, each under its txid; beside them stand the taker of each
 -- outpoint, of which there is but one, how many they are, and how many bytes they have.
-pub record IsTable (t : Table) (ks : List KeptTx) : Type 0 where
-  pub are : standing t.kept.entries ≡ ks
-  pub right : StandRight t.kept.entries
+pub record HasEntries (t : Table) (ks : List KeptTx) : Type 0 where
+  pub are : undropped t.kept.entries ≡ ks
+  pub right : StandUnderTxids t.kept.entries
   pub once : IsUnique same_hash t.kept
   pub takers : (o : Outpoint) → get same_outpoint t.spenders o
       ≡ option_map (λ k. k.txid) (find (takes_from o) ks)
@@ -74,7 +74,7 @@ abbrev pub HasFewSlots : Table → Type 0
 HasFewSlots t = length t.kept.entries ≤ t.count * 2 + 1
 
 -- two tables have the same entries and takers
-pub record AreSame (t u : Table) : Type 0 where
+pub record HaveSameEntries (t u : Table) : Type 0 where
   pub kept : u.kept.entries ≡ t.kept.entries
   pub spenders : u.spenders.entries ≡ t.spenders.entries
   pub count : u.count ≡ t.count
@@ -82,7 +82,7 @@ pub record AreSame (t u : Table) : Type 0 where
   pub kept_once : IsUnique same_hash t.kept → IsUnique same_hash u.kept
 
 -- there is room for one more transaction with so many inputs, and for another name of a slot
-pub record HasRoom (t : Table) (inputs : ℕ) : Type 0 where
+pub record HasTxRoom (t : Table) (inputs : ℕ) : Type 0 where
   pub kept : 1 < spare t.kept
   pub spenders : inputs ≤ spare t.spenders
 

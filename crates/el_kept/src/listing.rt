@@ -36,7 +36,7 @@ fn listing_of(script: &Hash32, txid: &Hash32) -> Listing
 // Lists the transaction under the script hash, unless it is listed there.
 fn add(listings: &mut BTreeSet<Listing>, script: &Hash32, txid: &Hash32) -> Result<(), OutOfMemory>
     ensures ok { (l : shape.Listing) → OnOk result (spec.is_in listings.new l
-        ≡ (if spec.lists script.now txid.now l then true else spec.is_in listings.old l)) }
+        ≡ (if spec.is_listing_of script.now txid.now l then true else spec.is_in listings.old l)) }
     ensures err { (l : shape.Listing) → OnErr result (spec.is_in listings.new l ≡ spec.is_in listings.old l) }
 {
     listings.insert(listing_of(script, txid))?;
@@ -46,7 +46,7 @@ fn add(listings: &mut BTreeSet<Listing>, script: &Hash32, txid: &Hash32) -> Resu
 // It is listed under the script hash no more.
 fn remove(listings: &mut BTreeSet<Listing>, script: &Hash32, txid: &Hash32)
     ensures { (l : shape.Listing) → spec.is_in listings.new l
-        ≡ (if spec.lists script.now txid.now l then false else spec.is_in listings.old l) }
+        ≡ (if spec.is_listing_of script.now txid.now l then false else spec.is_in listings.old l) }
 {
     listings.remove(&listing_of(script, txid));
 }

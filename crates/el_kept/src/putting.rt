@@ -10,7 +10,7 @@ ghost use Rattle.el_tx.specs.declared.types.Outpoint as outpoint_shape;
 ghost use Rattle.el_mempool.specs.declared.held.Source as source_shape;
 ghost use Rattle.el_base.specs.declared.hash.Hash32 as hash_shape;
 ghost use Rattle.el_mempool.specs.Standing.{is_at_script};
-ghost use Rattle.el_kept.specs.Tables.{standing, by_txid, is_source_of, IsTable, StandRight, HasFewSlots, AreSame, HasRoom};
+ghost use Rattle.el_kept.specs.Tables.{undropped, by_txid, is_source_of, HasEntries, StandUnderTxids, HasFewSlots, HaveSameEntries, HasTxRoom};
 ghost use Rattle.el_kept.specs.Listings.{AreListed};
 
 use crate::listing::{Listing, list_under, unlist_under};
@@ -36,9 +36,9 @@ fn any_taken(table: &Table, inputs: &[Source]) -> bool
 
 // Finds room for one more transaction with so many inputs, and for another name of a slot.
 fn make_room(table: &mut Table, inputs: usize) -> Result<(), OutOfMemory>
-    ensures same { AreSame table.old table.new }
+    ensures same { HaveSameEntries table.old table.new }
     ensures slots { HasFewSlots table.old → HasFewSlots table.new }
-    ensures room { OnOk result (HasRoom table.new inputs) }
+    ensures room { OnOk result (HasTxRoom table.new inputs) }
 {
     table.kept.reserve(2)?;
     table.spenders.reserve(inputs)?;
@@ -87,12 +87,12 @@ fn name_by(number: usize) -> Hash32
 // The slot with that txid, whose transaction was dropped, goes by a name that no slot has.
 fn rename(kept: &mut IndexMap<Hash32, Option<KeptTx>>, txid: &Hash32, name: Hash32)
     requires room { 0 < spare kept.old }
-    requires right { StandRight kept.old.entries }
-    requires dropped { by_txid txid.now (standing kept.old.entries) ≡ None }
+    requires right { StandUnderTxids kept.old.entries }
+    requires dropped { by_txid txid.now (undropped kept.old.entries) ≡ None }
     requires there { is_some (get same_hash kept.old txid.now) ≡ true }
     requires new { get same_hash kept.old name ≡ None }
-    ensures standing { standing kept.new.entries ≡ standing kept.old.entries }
-    ensures right { StandRight kept.new.entries }
+    ensures standing { undropped kept.new.entries ≡ undropped kept.old.entries }
+    ensures right { StandUnderTxids kept.new.entries }
     ensures free { get same_hash kept.new txid.now ≡ None }
     ensures slots { length kept.new.entries ≡ length kept.old.entries }
     ensures room { spare kept.old ≤ spare kept.new + 1 }
@@ -107,11 +107,11 @@ fn rename(kept: &mut IndexMap<Hash32, Option<KeptTx>>, txid: &Hash32, name: Hash
 // is as small as that is the slot taken out, and all after it moved. As many as `count` are kept.
 fn give_way(kept: &mut IndexMap<Hash32, Option<KeptTx>>, txid: &Hash32, count: u64)
     requires room { 1 < spare kept.old }
-    requires count { count ≡ length (standing kept.old.entries) }
-    requires right { StandRight kept.old.entries }
-    requires dropped { by_txid txid.now (standing kept.old.entries) ≡ None }
-    ensures standing { standing kept.new.entries ≡ standing kept.old.entries }
-    ensures right { StandRight kept.new.entries }
+    requires count { count ≡ length (undropped kept.old.entries) }
+    requires right { StandUnderTxids kept.old.entries }
+    requires dropped { by_txid txid.now (undropped kept.old.entries) ≡ None }
+    ensures standing { undropped kept.new.entries ≡ undropped kept.old.entries }
+    ensures right { StandUnderTxids kept.new.entries }
     ensures free { get same_hash kept.new txid.now ≡ None }
     ensures slots { length kept.new.entries ≤ length kept.old.entries }
     ensures room { 0 < spare kept.new }
@@ -132,14 +132,14 @@ fn give_way(kept: &mut IndexMap<Hash32, Option<KeptTx>>, txid: &Hash32, count: u
 
 // Puts the entry after the others; it is new, and nobody takes what it takes.
 fn put(table: &mut Table, entry: KeptTx, count: u64, bytes: u64)
-    requires table { IsTable table.old (standing table.old.kept.entries) }
-    requires room { HasRoom table.old (length entry.inputs) }
-    requires new { by_txid entry.txid (standing table.old.kept.entries) ≡ None }
+    requires table { HasEntries table.old (undropped table.old.kept.entries) }
+    requires room { HasTxRoom table.old (length entry.inputs) }
+    requires new { by_txid entry.txid (undropped table.old.kept.entries) ≡ None }
     requires free { AllByRecursion (λ (s : source_shape.Source).
         get same_outpoint table.old.spenders s.from ≡ None) entry.inputs }
     requires count { count ≡ table.old.count + 1 }
     requires bytes { bytes ≡ table.old.bytes + length entry.bytes }
-    ensures table { IsTable table.new (standing table.old.kept.entries ++ entry ∷ []) }
+    ensures table { HasEntries table.new (undropped table.old.kept.entries ++ entry ∷ []) }
     ensures slots { HasFewSlots table.old → HasFewSlots table.new }
 {
     let txid = entry.txid;
@@ -163,12 +163,12 @@ fn sum_of(a: u64, b: u64) -> Result<u64, OutOfMemory>
 // Puts the entry, whose txid is new and which takes what nobody takes, after the others. Fails only where
 // memory runs out, and then changes nothing that can be seen.
 fn put_new(table: &mut Table, entry: KeptTx) -> Result<(), OutOfMemory>
-    requires table { IsTable table.old (standing table.old.kept.entries) }
-    requires new { by_txid entry.txid (standing table.old.kept.entries) ≡ None }
+    requires table { HasEntries table.old (undropped table.old.kept.entries) }
+    requires new { by_txid entry.txid (undropped table.old.kept.entries) ≡ None }
     requires free { AllByRecursion (λ (s : source_shape.Source).
         get same_outpoint table.old.spenders s.from ≡ None) entry.inputs }
-    ensures joined { OnOk result (IsTable table.new (standing table.old.kept.entries ++ entry ∷ [])) }
-    ensures same { OnErr result (AreSame table.old table.new) }
+    ensures joined { OnOk result (HasEntries table.new (undropped table.old.kept.entries ++ entry ∷ [])) }
+    ensures same { OnErr result (HaveSameEntries table.old table.new) }
     ensures slots { HasFewSlots table.old → HasFewSlots table.new }
 {
     let count = sum_of(table.count, 1)?;
@@ -185,16 +185,16 @@ fn put_listed(
     entry: KeptTx,
     scripts: &[Hash32],
 ) -> Result<(), OutOfMemory>
-    requires table { IsTable table.old (standing table.old.kept.entries) }
-    requires listed { AreListed listings.old (standing table.old.kept.entries) }
+    requires table { HasEntries table.old (undropped table.old.kept.entries) }
+    requires listed { AreListed listings.old (undropped table.old.kept.entries) }
     requires scripts { (s : hash_shape.Hash32) → list_any (same_hash s) scripts.now ≡ is_at_script s.0 entry }
-    requires new { by_txid entry.txid (standing table.old.kept.entries) ≡ None }
+    requires new { by_txid entry.txid (undropped table.old.kept.entries) ≡ None }
     requires free { AllByRecursion (λ (s : source_shape.Source).
         get same_outpoint table.old.spenders s.from ≡ None) entry.inputs }
-    ensures joined { OnOk result (IsTable table.new (standing table.old.kept.entries ++ entry ∷ [])) }
-    ensures listed { OnOk result (AreListed listings.new (standing table.old.kept.entries ++ entry ∷ [])) }
-    ensures same { OnErr result (AreSame table.old table.new) }
-    ensures as_before { OnErr result (AreListed listings.new (standing table.old.kept.entries)) }
+    ensures joined { OnOk result (HasEntries table.new (undropped table.old.kept.entries ++ entry ∷ [])) }
+    ensures listed { OnOk result (AreListed listings.new (undropped table.old.kept.entries ++ entry ∷ [])) }
+    ensures same { OnErr result (HaveSameEntries table.old table.new) }
+    ensures as_before { OnErr result (AreListed listings.new (undropped table.old.kept.entries)) }
     ensures slots { HasFewSlots table.old → HasFewSlots table.new }
 {
     let txid = entry.txid;
@@ -217,15 +217,15 @@ pub fn join(
     entry: KeptTx,
     scripts: &[Hash32],
 ) -> Result<(), OutOfMemory>
-    requires table { IsTable table.old (standing table.old.kept.entries) }
-    requires listed { AreListed listings.old (standing table.old.kept.entries) }
+    requires table { HasEntries table.old (undropped table.old.kept.entries) }
+    requires listed { AreListed listings.old (undropped table.old.kept.entries) }
     requires scripts { (s : hash_shape.Hash32) → list_any (same_hash s) scripts.now ≡ is_at_script s.0 entry }
-    ensures table { IsTable table.new (standing table.new.kept.entries) }
-    ensures listed { AreListed listings.new (standing table.new.kept.entries) }
-    ensures joined { by_txid entry.txid (standing table.old.kept.entries) ≡ None
+    ensures table { HasEntries table.new (undropped table.new.kept.entries) }
+    ensures listed { AreListed listings.new (undropped table.new.kept.entries) }
+    ensures joined { by_txid entry.txid (undropped table.old.kept.entries) ≡ None
         → AllByRecursion (λ (s : source_shape.Source). get same_outpoint table.old.spenders s.from ≡ None)
         entry.inputs
-        → OnOk result (standing table.new.kept.entries ≡ standing table.old.kept.entries ++ entry ∷ []) }
+        → OnOk result (undropped table.new.kept.entries ≡ undropped table.old.kept.entries ++ entry ∷ []) }
     ensures same { OnErr result (table.new.kept.entries ≡ table.old.kept.entries) }
     ensures slots { HasFewSlots table.old → HasFewSlots table.new }
 {

@@ -3,7 +3,7 @@ ghost use Rattle.std.specs.Prelude.{◌≡◌, true, Some, map};
 ghost use Rattle.std.specs.Option.{is_some, option_flatten};
 ghost use Rattle.indexmap.specs.IndexMap.{get, insert_entry, IsUnique};
 ghost use Rattle.el_chain.specs.Headers.{same_hash};
-ghost use Rattle.el_kept.specs.Tables.{standing, slot, with_takes, same_froms, is_of, retaken, IsTable};
+ghost use Rattle.el_kept.specs.Tables.{undropped, slot, with_takes, same_froms, is_of, retaken, HasEntries};
 
 use crate::table::{Table, kept_under};
 use crate::taking::clear_slot;
@@ -116,8 +116,8 @@ pub fn is_as_was(entry: &KeptTx, flag: i8, fee: u64, inputs: &[Source]) -> bool
 
 /// The kept transaction takes this from now on; nothing changes where it isn't told of one. Takes no memory.
 pub fn retake(table: &mut Table, takes: Takes)
-    requires { IsTable table.old (standing table.old.kept.entries) }
-    ensures { IsTable table.new (map (retaken takes) (standing table.old.kept.entries)) }
+    requires { HasEntries table.old (undropped table.old.kept.entries) }
+    ensures { HasEntries table.new (map (retaken takes) (undropped table.old.kept.entries)) }
 {
     if !is_of_kept(table, &takes) {
         return;

@@ -2,7 +2,7 @@
 ghost use Rattle.std.specs.Prelude.{◌≡◌, ◌++◌, ◌∷◌, [], None, OnOk, OnErr, option_copied, option_and_then, slice_get};
 ghost use Rattle.std.specs.List.{AllByRecursion};
 ghost use Rattle.el_mempool.specs.declared.held.Source as source_shape;
-ghost use Rattle.el_kept.specs.Tables.{IsTable, HasFewSlots};
+ghost use Rattle.el_kept.specs.Tables.{HasEntries, HasFewSlots};
 ghost use Rattle.std.specs.Option.{option_flatten, is_some};
 ghost use Rattle.indexmap.specs.IndexMap.{get};
 ghost use Rattle.el_tx.specs.Hashing.{same_outpoint};
@@ -58,7 +58,7 @@ pub fn taker_in(table: &Table, outpoint: &Outpoint) -> Option<Hash32>
 
 /// A table of nothing. Takes no memory.
 pub fn empty_table(alloc: Global) -> Table
-    ensures table { IsTable result [] }
+    ensures table { HasEntries result [] }
     ensures slots { HasFewSlots result }
 {
     Table {

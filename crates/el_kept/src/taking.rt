@@ -8,7 +8,7 @@ ghost use Rattle.el_chain.specs.Headers.{same_hash};
 ghost use Rattle.el_tx.specs.Hashing.{same_outpoint};
 ghost use Rattle.el_tx.specs.declared.types.Outpoint as outpoint_shape;
 ghost use Rattle.el_mempool.specs.declared.held.KeptTx as kept_shape;
-ghost use Rattle.el_kept.specs.Tables.{standing, is_source_of, without, IsTable, HasFewSlots};
+ghost use Rattle.el_kept.specs.Tables.{undropped, is_source_of, without_txids, HasEntries, HasFewSlots};
 ghost use Rattle.el_kept.specs.Listings.{AreListed};
 
 use crate::listing::{Listing, unlist};
@@ -65,8 +65,8 @@ fn remove_empty(kept: &mut IndexMap<Hash32, Option<KeptTx>>)
 
 // Takes the transaction out of the table; nothing changes where it isn't kept.
 fn take_out(table: &mut Table, id: &Hash32)
-    requires { IsTable table.old (standing table.old.kept.entries) }
-    ensures { IsTable table.new (without (id.now ∷ []) (standing table.old.kept.entries)) }
+    requires { HasEntries table.old (undropped table.old.kept.entries) }
+    ensures { HasEntries table.new (without_txids (id.now ∷ []) (undropped table.old.kept.entries)) }
 {
     if kept_under(table, id).is_none() {
         return;
@@ -80,9 +80,9 @@ fn take_out(table: &mut Table, id: &Hash32)
 
 // Takes its listings away; nothing changes where it isn't kept.
 fn unlist_kept(table: &Table, listings: &mut BTreeSet<Listing>, id: &Hash32)
-    requires table { IsTable table.now (standing table.now.kept.entries) }
-    requires listed { AreListed listings.old (standing table.now.kept.entries) }
-    ensures { AreListed listings.new (without (id.now ∷ []) (standing table.now.kept.entries)) }
+    requires table { HasEntries table.now (undropped table.now.kept.entries) }
+    requires listed { AreListed listings.old (undropped table.now.kept.entries) }
+    ensures { AreListed listings.new (without_txids (id.now ∷ []) (undropped table.now.kept.entries)) }
 {
     if let Some(entry) = kept_under(table, id) {
         unlist(listings, entry);
@@ -91,10 +91,10 @@ fn unlist_kept(table: &Table, listings: &mut BTreeSet<Listing>, id: &Hash32)
 
 /// Takes the transactions out of the table, and their listings away.
 pub fn take_out_all(table: &mut Table, listings: &mut BTreeSet<Listing>, ids: &[Hash32])
-    requires table { IsTable table.old (standing table.old.kept.entries) }
-    requires listed { AreListed listings.old (standing table.old.kept.entries) }
-    ensures table { IsTable table.new (without ids.now (standing table.old.kept.entries)) }
-    ensures listed { AreListed listings.new (without ids.now (standing table.old.kept.entries)) }
+    requires table { HasEntries table.old (undropped table.old.kept.entries) }
+    requires listed { AreListed listings.old (undropped table.old.kept.entries) }
+    ensures table { HasEntries table.new (without_txids ids.now (undropped table.old.kept.entries)) }
+    ensures listed { AreListed listings.new (without_txids ids.now (undropped table.old.kept.entries)) }
 {
     for id in ids {
         unlist_kept(table, listings, id);
@@ -104,8 +104,8 @@ pub fn take_out_all(table: &mut Table, listings: &mut BTreeSet<Listing>, ids: &[
 
 /// Takes the slots away whose transactions were dropped, once they outnumber the kept ones.
 pub fn tidy(table: &mut Table)
-    requires { IsTable table.old (standing table.old.kept.entries) }
-    ensures table { IsTable table.new (standing table.old.kept.entries) }
+    requires { HasEntries table.old (undropped table.old.kept.entries) }
+    ensures table { HasEntries table.new (undropped table.old.kept.entries) }
     ensures slots { HasFewSlots table.new }
 {
     if (table.kept.len() as u64) / 2 > table.count {

@@ -3,9 +3,9 @@ ghost use Rattle.std.specs.Prelude.{◌≡◌, ◌++◌, [], ◌∷◌, if◌the
 ghost use Rattle.std.specs.BTreeSet.{IsOrdered};
 ghost use Rattle.el_chain.specs.Chains.{Chain};
 ghost use Rattle.el_tx.specs.declared.types.Tx as shape;
-ghost use Rattle.el_mempool.specs.Standing.{StandsFor};
+ghost use Rattle.el_mempool.specs.Standing.{KeptStandFor};
 ghost use Rattle.el_mempool.specs.Unconfirmed.{pool_history, pool_unspent};
-ghost use Rattle.el_kept.specs.Tables.{standing, IsTable};
+ghost use Rattle.el_kept.specs.Tables.{undropped, HasEntries};
 ghost use Rattle.el_kept.specs.Listings as spec;
 ghost use Rattle.el_kept.specs.Listings.{AreListed};
 
@@ -30,7 +30,7 @@ fn txid_of(listing: &Listing) -> Hash32
 
 // The listings under the script hash, in order. Takes no memory.
 fn listed<'a>(listings: &'a BTreeSet<Listing>, script: &Hash32) -> Range<'a, Listing>
-    ensures under { result ≡ spec.under script.now listings.now }
+    ensures under { result ≡ spec.listings_under script.now listings.now }
     ensures ordered { IsOrdered spec.listing_cmp listings.now }
 {
     let first = Listing {
@@ -52,9 +52,10 @@ pub fn entries_at(
     listings: &BTreeSet<Listing>,
     script: &Hash32,
 ) -> Result<Vec<PoolEntry>, OutOfMemory>
-    requires table { IsTable table.now (standing table.now.kept.entries) }
-    requires listed { AreListed listings.now (standing table.now.kept.entries) }
-    ensures { (chain : Chain) (kept : List shape.Tx) → StandsFor (standing table.now.kept.entries) chain kept
+    requires table { HasEntries table.now (undropped table.now.kept.entries) }
+    requires listed { AreListed listings.now (undropped table.now.kept.entries) }
+    ensures { (chain : Chain) (kept : List shape.Tx)
+        → KeptStandFor (undropped table.now.kept.entries) chain kept
         → IfOk result (λ found. found.items ≡ pool_history chain kept script.now.0) }
 {
     let mut found = Vec::new(alloc);
@@ -80,7 +81,7 @@ fn add_out(
 ) -> Result<(), OutOfMemory>
     ensures { OnOk result (found.new.items ≡ found.old.items
         ++ (if spec.is_out table.now script.now outpoint held.now
-        then spec.coin_of outpoint held.now ∷ [] else [])) }
+        then spec.unconfirmed_coin outpoint held.now ∷ [] else [])) }
 {
     if held.script == *script && taker_in(table, &outpoint).is_none() {
         found.push(Coin {
@@ -122,9 +123,10 @@ pub fn outs_at(
     listings: &BTreeSet<Listing>,
     script: &Hash32,
 ) -> Result<Vec<Coin>, OutOfMemory>
-    requires table { IsTable table.now (standing table.now.kept.entries) }
-    requires listed { AreListed listings.now (standing table.now.kept.entries) }
-    ensures { (chain : Chain) (kept : List shape.Tx) → StandsFor (standing table.now.kept.entries) chain kept
+    requires table { HasEntries table.now (undropped table.now.kept.entries) }
+    requires listed { AreListed listings.now (undropped table.now.kept.entries) }
+    ensures { (chain : Chain) (kept : List shape.Tx)
+        → KeptStandFor (undropped table.now.kept.entries) chain kept
         → IfOk result (λ found. found.items ≡ pool_unspent kept script.now.0) }
 {
     let mut found = Vec::new(alloc);

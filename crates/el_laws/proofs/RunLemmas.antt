@@ -18,7 +18,7 @@ use Rattle.std.proofs.lemmas.List.{take_all, take-append-le}
 use Rattle.el_chain.specs.Chains.{Chain}
 use Rattle.el_model.specs.Queries.{height_of, tip_of}
 use Rattle.el_model.specs.Keeping.{Either}
-use Rattle.el_laws.specs.Going.{Told, Leads, IsSafe, WasSafe, none, at, refused}
+use Rattle.el_laws.specs.Going.{Told, MoveLeads, IsSafe, WasSafe, none, at, refused}
 use Rattle.el_chain.specs.declared.moves.Plan.{Plan}
 use Rattle.el_chain.specs.declared.moves.MoveFault.{MoveFault}
 use Rattle.el_laws.specs.declared.going.Mark.{Mark}
@@ -32,7 +32,7 @@ module _ {A : Type 0} (of_files : block_files.Ghosts A) (start : Chain) (plans :
   one_more : take n plans ++ p ∷ [] ≡ take (n + 1) plans
   one_more = ap (λ (l : List Plan). take n plans ++ l) (sym here) ∙ sym (take_more plans n d lt)
 
-  pub told_at : (next : Chain) (top : Option Hash32) (height : Option ℕ) (more : List Mark) → Leads of_files p acked next → top ≡ tip_of next → height ≡ height_of next → more ≡ sent ++ mark.At top height ∷ [] → Told of_files start (take (n + 1) plans) more next
+  pub told_at : (next : Chain) (top : Option Hash32) (height : Option ℕ) (more : List Mark) → MoveLeads of_files p acked next → top ≡ tip_of next → height ≡ height_of next → more ≡ sent ++ mark.At top height ∷ [] → Told of_files start (take (n + 1) plans) more next
   told_at next top height more moves is_top is_height is_more =
       rw (is_more, is_top, is_height) (subst (λ (l : List Plan). Told of_files start l (sent ++ mark.At (tip_of next) (height_of next) ∷ []) next) one_more (at (take n plans) sent acked p next told moves))
 
@@ -40,7 +40,7 @@ module _ {A : Type 0} (of_files : block_files.Ghosts A) (start : Chain) (plans :
   told_refused e before after more why is_more = rw is_more (subst (λ (l : List Plan). Told of_files start l (sent ++ mark.Refused e ∷ []) acked) one_more (refused (take n plans) sent acked p e before after told why))
 
   -- where nothing was sent of the move
-  pub safe_in_flight : {C : Type 0} (tells_crash : Type 0) (means : C → Chain → Type 0) (left : C → Type 0) (next : Chain) (same : List Mark) → length sent ≡ n → same ≡ sent → ((next ≡ acked) ⊎ Leads of_files p acked next)
+  pub safe_in_flight : {C : Type 0} (tells_crash : Type 0) (means : C → Chain → Type 0) (left : C → Type 0) (next : Chain) (same : List Mark) → length sent ≡ n → same ≡ sent → ((next ≡ acked) ⊎ MoveLeads of_files p acked next)
       → (tells_crash → (c : C) → left c → Either means acked next c) → IsSafe of_files tells_crash means left plans start same
   safe_in_flight tells_crash means left next same size is_same flies leaves = rw is_same (record {
     acked = acked;
@@ -53,7 +53,7 @@ module _ {A : Type 0} (of_files : block_files.Ghosts A) (start : Chain) (plans :
   -- where its device failed
   pub failed_flies : {S C : Type 0} (tells_crash : Type 0) (means : C → Chain → Type 0) (moment : S → ℕ) (left_since : S → ℕ → C → Type 0) (old new : S)
       → ((t u : ℕ) (c : C) → t ≤ u → left_since new u c → left_since new t c) → length sent ≡ n
-      → (next : Chain) × ((next ≡ acked) ⊎ Leads of_files p acked next) × (tells_crash → LeavesOnly moment left_since old new (Either means acked next))
+      → (next : Chain) × ((next ≡ acked) ⊎ MoveLeads of_files p acked next) × (tells_crash → LeavesOnly moment left_since old new (Either means acked next))
       → IsSafe of_files tells_crash means (left_since new (moment new)) plans start sent
   failed_flies tells_crash means moment left_since old new earlier size failed =
       safe_in_flight tells_crash means (left_since new (moment new)) failed.0 sent size refl failed.1
@@ -61,7 +61,7 @@ module _ {A : Type 0} (of_files : block_files.Ghosts A) (start : Chain) (plans :
 
   -- one call more, at whose end perhaps more was sent
   pub ever_more : {S C : Type 0} (means : C → Chain → Type 0) (moment : S → ℕ) (left_since : S → ℕ → C → Type 0) (old mid new : S) (more added : List Mark) (next : Chain)
-      → length sent ≡ n → more ≡ sent ++ added → ((next ≡ acked) ⊎ Leads of_files p acked next)
+      → length sent ≡ n → more ≡ sent ++ added → ((next ≡ acked) ⊎ MoveLeads of_files p acked next)
       → LeavesOnly moment left_since old mid (WasSafe of_files means plans start sent) → LeavesOnly moment left_since mid new (Either means acked next)
       → LeavesOnly moment left_since old new (WasSafe of_files means plans start more)
   ever_more means moment left_since old mid new more added next size is_more flies run call =
@@ -166,5 +166,5 @@ move_on old new after plans i p h last tips = by p.forward refl
 
 -- what a move has in flight, by what the block files have
 pub in_flight : {A : Type 0} (of_files : block_files.Ghosts A) (before after : ℕ → List ℕ) (chain : Chain) (p : Plan) (next : Chain) → InFlight (StoodAt of_files before after) chain p next
-    → (next ≡ chain) ⊎ Leads of_files p chain next
+    → (next ≡ chain) ⊎ MoveLeads of_files p chain next
 in_flight of_files before after chain p next h = ⊎_elim (λ e. inl e) (λ m. inr (before, after, m.0, m.1, m.2)) h

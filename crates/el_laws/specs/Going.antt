@@ -27,8 +27,8 @@ AreMovesOf stands (p ∷ ps) = IsPlan p × ((chain : Chain) → stands chain →
     × (p.forward ≡ [] → ps ≡ []) × FollowOn (last_hash zero_hash p.forward) ps
 
 -- the move leads from the chain to that one, by what the block files had when it was made
-abbrev pub Leads : {A : Type 0} → block_files.Ghosts A → Plan → Chain → Chain → Type 0
-Leads of_files p chain next =
+abbrev pub MoveLeads : {A : Type 0} → block_files.Ghosts A → Plan → Chain → Chain → Type 0
+MoveLeads of_files p chain next =
     (before : ℕ → List ℕ) × (after : ℕ → List ℕ) × (blocks : Chain)
     × Moves (StoodAt of_files before after) chain p blocks × (next ≡ target p chain blocks)
 
@@ -42,7 +42,7 @@ pub data Told {A : Type 0} (of_files : block_files.Ghosts A) (start : Chain)
     : List Plan → List Mark → Chain → Type 0 where
   none : Told of_files start [] [] start
   at : (plans : List Plan) (sent : List Mark) (chain : Chain) (p : Plan) (next : Chain)
-      → Told of_files start plans sent chain → Leads of_files p chain next
+      → Told of_files start plans sent chain → MoveLeads of_files p chain next
       → Told of_files start (plans ++ p ∷ []) (sent ++ mark.At (tip_of next) (height_of next) ∷ []) next
   refused : (plans : List Plan) (sent : List Mark) (chain : Chain) (p : Plan) (e : MoveFault)
       (before after : ℕ → List ℕ) → Told of_files start plans sent chain
@@ -52,7 +52,7 @@ pub data Told {A : Type 0} (of_files : block_files.Ghosts A) (start : Chain)
 -- What is in flight: the acknowledged chain, or the target of the next move, of which nothing was told.
 abbrev pub IsInFlight : {A : Type 0} → block_files.Ghosts A → List Plan → ℕ → Chain → Chain → Type 0
 IsInFlight of_files plans done acked flight =
-    (flight ≡ acked) ⊎ ((p : Plan) × (slice_get plans done ≡ Some p) × Leads of_files p acked flight)
+    (flight ≡ acked) ⊎ ((p : Plan) × (slice_get plans done ≡ Some p) × MoveLeads of_files p acked flight)
 
 -- All that a crash may leave stands for the acknowledged chain or for the one in flight.
 pub record IsSafe {A C : Type 0} (of_files : block_files.Ghosts A) (tells_crash : Type 0)

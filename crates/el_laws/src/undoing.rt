@@ -5,7 +5,7 @@ ghost use Rattle.el_block.specs.declared.block.Block as shape;
 ghost use Rattle.el_chain.specs.Chains.{Chain, tip};
 ghost use Rattle.el_prepare.specs.Prepared.{prepared};
 ghost use Rattle.el_rows.specs.Reads.{Same};
-ghost use Rattle.el_rows.specs.Transaction.{tables_in, EditsRows};
+ghost use Rattle.el_rows.specs.Transaction.{with_edits, EditsRows};
 ghost use Rattle.el_schema.specs.Standing.{StandFor};
 
 use el_chain::ConnectFault;
@@ -34,9 +34,9 @@ pub fn connect_and_disconnect<R: Rows>(
 ) -> Result<(), ConnectFault>
     requires live { R.is_live t.old.rows.now }
     requires prepared { (block : shape.Block) × HasBlockEncoding block × (b.now ≡ prepared block) }
-    ensures same { (chain : Chain) (block : shape.Block) → R.tells → StandFor (tables_in t.old) chain
+    ensures same { (chain : Chain) (block : shape.Block) → R.tells → StandFor (with_edits t.old) chain
         → HasBlockEncoding block → b.now ≡ prepared block → block.header.previous ≡ tip chain
-        → OnOk result (Same (tables_in t.old) (tables_in t.new)) }
+        → OnOk result (Same (with_edits t.old) (with_edits t.new)) }
     ensures edits { EditsRows ConnectFault.DiskFailed t.old t.new result }
 {
     connect(t, b, place)?;
@@ -55,9 +55,9 @@ pub fn disconnect_and_connect<R: Rows>(
     requires live { R.is_live t.old.rows.now }
     requires prepared { (block : shape.Block) × HasBlockEncoding block × (b.now ≡ prepared block) }
     ensures same { (chain : Chain) (block : shape.Block) → R.tells
-        → StandFor (tables_in t.old) (chain ++ record { block = block; place = place } ∷ [])
+        → StandFor (with_edits t.old) (chain ++ record { block = block; place = place } ∷ [])
         → HasBlockEncoding block → b.now ≡ prepared block → block.header.previous ≡ tip chain
-        → OnOk result (Same (tables_in t.old) (tables_in t.new)) }
+        → OnOk result (Same (with_edits t.old) (with_edits t.new)) }
     ensures edits { EditsRows ConnectFault.DiskFailed t.old t.new result }
 {
     match disconnect(t) {

@@ -1,10 +1,10 @@
 // A store in memory that tells what a crash leaves.
 ghost use Rattle.std.specs.Prelude.{◌≡◌, ◌<◌, ◌≤◌, ◌-◌, ◌+◌, ◌^◌, ℕ, List, [], ◌∷◌, length, get_or, replicate, refl, None, IfOk};
-ghost use Rattle.el_row_formats.specs.Tables.{Tables, tables_of, first_count};
+ghost use Rattle.el_row_formats.specs.Tables.{Tables, tables_listed, first_count};
 ghost use Rattle.el_row_formats.specs.RowBytes.{link_bytes};
 ghost use Rattle.el_row_formats.specs.declared.limits.TheConstants.{MIN_HEAD_BITS};
 ghost use Rattle.el_rows.specs.Reads.{Same};
-ghost use Rattle.el_laws.specs.Versions.{last_of, IsOneSince, earlier_since, live_last};
+ghost use Rattle.el_laws.specs.Versions.{last_version, IsOneSince, earlier_since, live_last};
 
 use el_base::{GhostCount, Listed, OutOfMemory};
 use el_outside::DiskFailed;
@@ -28,7 +28,8 @@ impl VersionedRows {
     /// The rows before the first block, with 65,536 heads of each kind, for so many good commits.
     pub fn new(alloc: Global, good: u64) -> Result<VersionedRows, OutOfMemory>
         ensures first { IfOk result (λ s. (t : Table)
-            → tables_of (last_of s.versions) t ≡ replicate (first_count MIN_HEAD_BITS t) (link_bytes None)) }
+            → tables_listed (last_version s.versions) t
+            ≡ replicate (first_count MIN_HEAD_BITS t) (link_bytes None)) }
         ensures live { IfOk result (λ s. s.faults ≡ 0) }
     {
         let mut versions = Listed::new(alloc);
@@ -43,7 +44,7 @@ impl VersionedRows {
 
     // The last version.
     fn last(&self) -> &MemRows
-        ensures { result.now ≡ last_of self.now.versions }
+        ensures { result.now ≡ last_version self.now.versions }
     {
         let versions = self.versions.as_slice();
         &versions[versions.len() - 1]
@@ -55,9 +56,9 @@ impl Rows for VersionedRows {
 
     ghost tells_crash = { Unit {0} };
 
-    ghost lists = { λ s. tables_of (last_of s.versions) };
+    ghost lists = { λ s. tables_listed (last_version s.versions) };
 
-    ghost counts = { λ s t. length (tables_of (last_of s.versions) t) };
+    ghost counts = { λ s t. length (tables_listed (last_version s.versions) t) };
 
     ghost heads = { λ s. 2 ^ MIN_HEAD_BITS };
 

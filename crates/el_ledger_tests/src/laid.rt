@@ -6,7 +6,7 @@ ghost use Rattle.el_chain.specs.Chains.{Chain, tip};
 ghost use Rattle.el_chain.specs.Headers.{AreLinked};
 ghost use Rattle.el_chain.specs.Moves.{IsPlan, shorter};
 ghost use Rattle.el_chain.specs.Records.{IsNode};
-ghost use Rattle.el_gen.specs.Generated.{given};
+ghost use Rattle.el_gen.specs.Generated.{total_paid};
 ghost use Rattle.el_model.specs.Queries.{blocks_in};
 ghost use Rattle.el_tx.specs.Encoding.{HasEncoding};
 
@@ -69,7 +69,7 @@ pub struct Held {
 
 // What is given together, in satoshi.
 fn given_by(to: &[(u64, u32)]) -> Option<u64>
-    ensures { IfSome result (λ sum. sum ≡ given to.now) }
+    ensures { IfSome result (λ sum. sum ≡ total_paid to.now) }
 {
     let Some((first, rest)) = to.split_first() else {
         return Some(0);

@@ -4,7 +4,7 @@ ghost use Rattle.std.specs.Prelude.{◌≡◌, ◌≤◌, length, IfOk, IsTrue, 
 ghost use Rattle.std.specs.List.{AllByRecursion};
 ghost use Rattle.el_index.specs.Means.{top};
 ghost use Rattle.el_model.specs.Queries.{height_of};
-ghost use Rattle.el_row_formats.specs.Tables.{tables_of};
+ghost use Rattle.el_row_formats.specs.Tables.{tables_listed};
 ghost use Rattle.el_tx.specs.Encoding.{HasEncoding};
 
 use crate::laid::{Files, answer, files_of, go, numbers, opened, record_of, script_hash};
@@ -193,7 +193,8 @@ fn compare_txs<R: Abort>(rt: &R, both: &mut Both, txids: &[Hash32]) -> Result<()
 // Whether both have a block of that height.
 fn are_within(both: &Both, h: u32) -> bool
     ensures index { IsTrue result
-        → MatchOption (top (length (tables_of both.now.index.rows.rows Table.Blocks))) ⊥ (λ top. h ≤ top) }
+        → MatchOption (top (length (tables_listed both.now.index.rows.rows Table.Blocks))) ⊥
+        (λ top. h ≤ top) }
     ensures plain { IsTrue result → MatchOption (height_of both.now.plain) ⊥ (λ top. h ≤ top) }
 {
     match (both.index.height(), both.plain.height()) {

@@ -15,7 +15,7 @@ use Rattle.el_model.specs.Queries.{hashes_to, blocks_in, height_of}
 use Rattle.el_levels.specs.declared.kept.GroupTree.{GroupTree}
 use Rattle.el_levels.specs.declared.kept.AboveTree.{AboveTree}
 use Rattle.el_levels.specs.Groups.{group, lifted, group_count, lifted_groups, group_roots}
-use Rattle.el_levels.specs.Kept.{block_hashes, group_levels, IsAt, IsGroupOf, IsAboveOf}
+use Rattle.el_levels.specs.Kept.{block_hashes, group_levels, IsGroupTreeOf, IsGroupOf, IsAboveOf}
 use Rattle.el_levels.specs.within.Parts.{last_lifted, last_rows}
 use Rattle.el_levels.proofs.GroupLemmas.{root_of_groups, branch_of_groups, full_root, group_of_front, length-roots, root_at, roots_stay}
 use Rattle.el_levels.proofs.ReadingLemmas.{hash_count, under_blocks}
@@ -156,7 +156,7 @@ above_open n hashes le some =
 
 -- ---- trees
 
-pub group_is : (n number : ℕ) (hashes : List Hash32) (tree : GroupTree) → 2048 * number ≤ n → IsAt tree n number → IsGroupOf hashes tree
+pub group_is : (n number : ℕ) (hashes : List Hash32) (tree : GroupTree) → 2048 * number ≤ n → IsGroupTreeOf tree n number → IsGroupOf hashes tree
     → tree.tree.leaves ≡ group (take n hashes) number
 group_is n number hashes tree le at of =
     of ∙ ap₂ (λ (k s : ℕ). take k (drop s hashes)) at.count at.first ∙ leaves_are n number hashes le
@@ -172,7 +172,7 @@ pub record IsProof (hashes : List Hash32) (n height : ℕ) (group : GroupTree) (
   pub top : lifted above.tree.levels above.tree.leaves ≡ root (take n hashes)
 
 pub is_proof : (hashes : List Hash32) (n height : ℕ) (group : GroupTree) (above : AboveTree) → n ≤ length hashes → height < n
-    → IsAt group n (height / 2048) → IsGroupOf hashes group → above.upto + 1 ≡ n → IsAboveOf hashes above
+    → IsGroupTreeOf group n (height / 2048) → IsGroupOf hashes group → above.upto + 1 ≡ n → IsAboveOf hashes above
     → IsProof hashes n height group above
 unfolding branch_of lifted root
 is_proof hashes n height tree above le below at of upto is =
@@ -196,7 +196,7 @@ is_proof hashes n height tree above le below at of upto is =
 
 -- the same of a ledger's chain
 pub proof_of_chain : (chain : Chain) (height : Option ℕ) (asked upto : ℕ) (group : GroupTree) (above : AboveTree) → height ≡ height_of chain
-    → MatchOption height ⊥ (λ (top : ℕ). upto ≤ top) → asked ≤ upto → IsAt group (upto + 1) (asked / 2048)
+    → MatchOption height ⊥ (λ (top : ℕ). upto ≤ top) → asked ≤ upto → IsGroupTreeOf group (upto + 1) (asked / 2048)
     → IsGroupOf (block_hashes chain) group → above.upto ≡ upto → IsAboveOf (block_hashes chain) above
     → IsProof (block_hashes chain) (upto + 1) asked group above
 proof_of_chain chain height asked upto group above is within below at of top over =
@@ -228,7 +228,7 @@ all_roots chain height is =
 
 -- ---- the last group
 
-pub last_is : (n number : ℕ) (hashes : List Hash32) (tree : GroupTree) (hash : Hash32) → number ≡ n / 2048 → IsAt tree n number
+pub last_is : (n number : ℕ) (hashes : List Hash32) (tree : GroupTree) (hash : Hash32) → number ≡ n / 2048 → IsGroupTreeOf tree n number
     → IsGroupOf hashes tree → hash ≡ lifted tree.tree.levels tree.tree.leaves → hash ≡ last_lifted n hashes
 last_is n number hashes tree hash is at of hash_is =
     hash_is

@@ -9,5 +9,5 @@ pub record Grown : Type 0 where
   pub levels : ℕ
 
 -- the tree over hashes up to the root
-abbrev pub whole : List Hash32 → Grown
-whole list = record { leaves = list; levels = levels (length list) }
+abbrev pub whole_tree : List Hash32 → Grown
+whole_tree list = record { leaves = list; levels = levels (length list) }

@@ -111,7 +111,8 @@ impl BlockTree {
         ensures kept { (chain : Chain) → G.stands ledger.old chain → IsTreeOf chain self.old
             → IsTreeOf chain self.new }
         ensures tree { (chain : Chain) → G.stands ledger.old chain
-            → IfOk result (λ found. IsSome found → IfSome (txids_at chain height) (λ ids. length ids ≤ TXID_LIMIT
+            → IfOk result (λ found. IsSome found
+            → IfSome (txids_at chain height) (λ ids. length ids ≤ TXID_LIMIT
             → IsAtHeight height self.new)) }
         ensures large { (chain : Chain) → G.stands ledger.old chain
             → IfSome (txids_at chain height) (λ ids. TXID_LIMIT < length ids → self.new ≡ self.old) }
@@ -119,7 +120,8 @@ impl BlockTree {
         ensures failed { OnErr result (self.new ≡ self.old) }
         ensures again { IsAtHeight height self.old → (ledger.new ≡ ledger.old) × (self.new ≡ self.old) }
         ensures rows { (chain : Chain) → G.stands ledger.old chain
-            → IfSome (txids_at chain height) (λ ids. G.reads ledger.new ≤ G.reads ledger.old + (1 + length ids)) }
+            → IfSome (txids_at chain height)
+            (λ ids. G.reads ledger.new ≤ G.reads ledger.old + (1 + length ids)) }
         ensures quiet { Asked ⟦<G as Ledger>⟧ ledger.old ledger.new }
         ensures cause { CountsOnly (G.faults ledger.old) (G.faults ledger.new) QueryFault.DiskFailed result }
     {
@@ -158,7 +160,8 @@ impl BlockTree {
             → IfOk result (λ found. IsSomeAnd (txids_at chain height) (λ ids. found ≡ slice_get ids pos)) }
         ensures again { IsAtHeight height self.now → ledger.new ≡ ledger.old }
         ensures rows { (chain : Chain) → G.stands ledger.old chain
-            → IfSome (txids_at chain height) (λ ids. G.reads ledger.new ≤ G.reads ledger.old + (1 + length ids)) }
+            → IfSome (txids_at chain height)
+            (λ ids. G.reads ledger.new ≤ G.reads ledger.old + (1 + length ids)) }
         ensures quiet { Asked ⟦<G as Ledger>⟧ ledger.old ledger.new }
         ensures cause { CountsOnly (G.faults ledger.old) (G.faults ledger.new) QueryFault.DiskFailed result }
     {

@@ -6,7 +6,7 @@ ghost use Rattle.el_chain.specs.Chains.{Chain};
 ghost use Rattle.el_merkle.specs.Merkle.{root, branch_of};
 ghost use Rattle.el_model.specs.Queries.{blocks_in, hashes_to};
 ghost use Rattle.el_model.specs.LedgerCalls.{Asked};
-ghost use Rattle.el_levels.specs.Kept.{block_hashes, AreOf, HasTrees};
+ghost use Rattle.el_levels.specs.Kept.{block_hashes, IsKeptOf, HasTrees};
 
 use crate::groups::GROUP;
 use crate::kept::{AboveTree, GroupTree};
@@ -29,9 +29,9 @@ pub struct Levels {
 }
 
 impl Model for Levels {
-    ghost use Rattle.el_levels.specs.Kept.{Kept};
+    ghost use Rattle.el_levels.specs.Kept.{KeptTrees};
 
-    ghost Value = { Kept };
+    ghost Value = { KeptTrees };
 
     ghost view = { λ l. record { roots = l.roots.items; group = l.group; above = l.above } };
 }
@@ -49,7 +49,7 @@ fn full_groups(height: Option<u32>) -> u32
 impl Levels {
     /// What is kept of no blocks. Takes no memory.
     pub fn new(alloc: Global) -> Levels
-        ensures { AreOf [] result }
+        ensures { IsKeptOf [] result }
     {
         Levels {
             roots: Vec::new(alloc),
@@ -74,8 +74,8 @@ impl Levels {
     ) -> Result<(), QueryFault>
         requires live { G.is_live ledger.old }
         ensures kept { (chain : Chain) (before : List shape.Hash32) → G.stands ledger.old chain
-            → AreOf before self.old → take same before ≡ take same (block_hashes chain)
-            → OnOk result (AreOf (block_hashes chain) self.new) }
+            → IsKeptOf before self.old → take same before ≡ take same (block_hashes chain)
+            → OnOk result (IsKeptOf (block_hashes chain) self.new) }
         // Also where no chain is told.
         ensures len { OnOk result (length self.new.roots ≡ blocks_in (G.height ledger.old) / GROUP) }
         ensures rows { G.reads ledger.new ≤ G.reads ledger.old
@@ -118,12 +118,12 @@ impl Levels {
         requires within { MatchOption (G.height ledger.old) ⊥ (λ top. upto ≤ top) }
         requires below { height ≤ upto }
         requires roots { (upto + 1) / GROUP ≤ length self.old.roots }
-        ensures branch { (chain : Chain) → G.stands ledger.old chain → AreOf (block_hashes chain) self.old
+        ensures branch { (chain : Chain) → G.stands ledger.old chain → IsKeptOf (block_hashes chain) self.old
             → IfOk result (λ proof. proof.0.items ≡ branch_of (hashes_to chain upto) height) }
-        ensures root { (chain : Chain) → G.stands ledger.old chain → AreOf (block_hashes chain) self.old
+        ensures root { (chain : Chain) → G.stands ledger.old chain → IsKeptOf (block_hashes chain) self.old
             → IfOk result (λ proof. proof.1 ≡ root (hashes_to chain upto)) }
-        ensures kept { (chain : Chain) → G.stands ledger.old chain → AreOf (block_hashes chain) self.old
-            → AreOf (block_hashes chain) self.new }
+        ensures kept { (chain : Chain) → G.stands ledger.old chain → IsKeptOf (block_hashes chain) self.old
+            → IsKeptOf (block_hashes chain) self.new }
         ensures same { self.new.roots ≡ self.old.roots }
         ensures trees { OnOk result (HasTrees self.new height upto) }
         ensures again { HasTrees self.old height upto → ledger.new ≡ ledger.old }

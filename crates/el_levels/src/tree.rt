@@ -2,7 +2,7 @@
 ghost use Rattle.std.specs.Prelude.{◌≡◌, ◌≤◌, ◌<◌, ◌^◌, ℕ, List, length, take, IfOk};
 ghost use Rattle.el_merkle.specs.Merkle as merkle;
 ghost use Rattle.el_levels.specs.Groups.{lifted};
-ghost use Rattle.el_levels.specs.Trees.{whole};
+ghost use Rattle.el_levels.specs.Trees.{whole_tree};
 ghost use Rattle.el_levels.specs.within.RowsThrough.{rows_through, AreRows};
 
 use el_base::{Hash32, OutOfMemory};
@@ -113,7 +113,7 @@ impl Tree {
     /// The tree over hashes up to their root. The only error is out of memory.
     pub fn whole(alloc: Global, list: &[Hash32]) -> Result<Tree, OutOfMemory>
         requires { 0 < length list.now }
-        ensures { IfOk result (λ t. t ≡ whole list.now) }
+        ensures { IfOk result (λ t. t ≡ whole_tree list.now) }
     {
         let tree = Tree::new(alloc, levels_of(list.len()), list)?;
         Ok(tree)

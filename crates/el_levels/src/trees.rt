@@ -6,7 +6,7 @@ ghost use Rattle.el_merkle.specs.Merkle.{branch_through};
 ghost use Rattle.el_model.specs.LedgerCalls.{Asked};
 ghost use Rattle.el_levels.specs.Groups.{group_roots, lifted};
 ghost use Rattle.el_levels.specs.Kept as kept;
-ghost use Rattle.el_levels.specs.Kept.{block_hashes, IsAt, IsGroupOf, IsAboveOf};
+ghost use Rattle.el_levels.specs.Kept.{block_hashes, IsGroupTreeOf, IsGroupOf, IsAboveOf};
 ghost use Rattle.el_levels.specs.within.Parts.{IsAboveList, last_lifted, last_rows};
 
 use crate::groups::{GROUP, LEVELS};
@@ -40,7 +40,7 @@ fn group_len(upto: u32, number: u32) -> u32
 // Whether the tree is that of the group with that number among the hashes of heights 0 to `upto`.
 fn is_at(group: &GroupTree, upto: u32, number: u32) -> bool
     requires { GROUP * number ≤ upto }
-    ensures { IsTrue result ↔ IsAt group.now (upto + 1) number }
+    ensures { IsTrue result ↔ IsGroupTreeOf group.now (upto + 1) number }
 {
     group.first == number * GROUP
         && group.tree.count() == group_len(upto, number) as usize
@@ -57,7 +57,7 @@ fn read_group<G: Ledger>(
     requires live { G.is_live ledger.old }
     requires within { MatchOption (G.height ledger.old) ⊥ (λ top. upto ≤ top) }
     requires below { GROUP * number ≤ upto }
-    ensures at { IfOk result (λ group. IsAt group (upto + 1) number) }
+    ensures at { IfOk result (λ group. IsGroupTreeOf group (upto + 1) number) }
     ensures group { (chain : Chain) → G.stands ledger.old chain
         → IfOk result (IsGroupOf (block_hashes chain)) }
     ensures rows { G.reads ledger.new
@@ -83,13 +83,14 @@ pub fn group_for<G: Ledger>(
     requires live { G.is_live ledger.old }
     requires within { MatchOption (G.height ledger.old) ⊥ (λ top. upto ≤ top) }
     requires below { GROUP * number ≤ upto }
-    ensures at { IfOk result (λ group. IsAt group (upto + 1) number) }
+    ensures at { IfOk result (λ group. IsGroupTreeOf group (upto + 1) number) }
     ensures group { (chain : Chain) → G.stands ledger.old chain → IfSome kept (IsGroupOf (block_hashes chain))
         → IfOk result (IsGroupOf (block_hashes chain)) }
     ensures rows { G.reads ledger.new
         ≤ G.reads ledger.old + min GROUP (upto + 1 - GROUP * number) }
     // A tree that is kept is read off without the ledger.
-    ensures again { IsSomeAnd kept (λ group. IsAt group (upto + 1) number) → ledger.new ≡ ledger.old }
+    ensures again { IsSomeAnd kept (λ group. IsGroupTreeOf group (upto + 1) number)
+        → ledger.new ≡ ledger.old }
     ensures quiet { Asked ⟦<G as Ledger>⟧ ledger.old ledger.new }
     ensures cause { CountsOnly (G.faults ledger.old) (G.faults ledger.new) QueryFault.DiskFailed result }
 {
@@ -111,7 +112,7 @@ fn last_hash<G: Ledger>(
 ) -> Result<Hash32, QueryFault>
     requires live { G.is_live ledger.old }
     requires within { MatchOption (G.height ledger.old) ⊥ (λ top. upto ≤ top) }
-    requires at { IsAt group.now (upto + 1) asked }
+    requires at { IsGroupTreeOf group.now (upto + 1) asked }
     requires rest { 0 < (upto + 1) % GROUP }
     ensures hash { (chain : Chain) → G.stands ledger.old chain → IsGroupOf (block_hashes chain) group.now
         → IfOk result (λ hash. hash ≡ last_lifted (upto + 1) (block_hashes chain)) }
@@ -149,7 +150,7 @@ fn above_groups<G: Ledger>(
 ) -> Result<Vec<Hash32>, QueryFault>
     requires live { G.is_live ledger.old }
     requires within { MatchOption (G.height ledger.old) ⊥ (λ top. upto ≤ top) }
-    requires at { IsAt group.now (upto + 1) asked }
+    requires at { IsGroupTreeOf group.now (upto + 1) asked }
     requires roots { (upto + 1) / GROUP ≤ length roots.now }
     ensures hashes { (chain : Chain) → G.stands ledger.old chain
         → roots.now ≡ group_roots (block_hashes chain) → IsGroupOf (block_hashes chain) group.now
@@ -183,7 +184,7 @@ pub fn above_for<G: Ledger>(
 ) -> Result<AboveTree, QueryFault>
     requires live { G.is_live ledger.old }
     requires within { MatchOption (G.height ledger.old) ⊥ (λ top. upto ≤ top) }
-    requires at { IsAt group.now (upto + 1) asked }
+    requires at { IsGroupTreeOf group.now (upto + 1) asked }
     requires roots { (upto + 1) / GROUP ≤ length roots.now }
     ensures upto { IfOk result (λ above. above.upto ≡ upto) }
     ensures above { (chain : Chain) → G.stands ledger.old chain

@@ -18,14 +18,14 @@ pub struct TxidTree {
 
 impl Model for TxidTree {
     ghost use Rattle.std.specs.Prelude.{◌≡◌};
-    ghost use Rattle.el_levels.specs.Trees.{whole};
+    ghost use Rattle.el_levels.specs.Trees.{whole_tree};
     ghost use Rattle.el_levels.specs.Blocks.{BlockTxids};
 
     ghost Value = { BlockTxids };
 
     ghost view = { λ t. record { height = t.height; txids = t.tree.leaves } };
 
-    ghost invariant = { λ t. t.tree ≡ whole t.tree.leaves };
+    ghost invariant = { λ t. t.tree ≡ whole_tree t.tree.leaves };
 }
 
 // Where the txid stands first among these.

@@ -9,7 +9,7 @@ use Rattle.std.proofs.lemmas.List.Elements.{All-head, All-tail, All-more}
 use Rattle.el_base.proofs.Lists.{cut_at, all_mid}
 use Rattle.std.proofs.lemmas.List.{get_or_default}
 use Rattle.el_lines.specs.NodeLines.{ShowsNumber, ShowsPlace}
-use Rattle.el_lines.specs.LineStates.{HasNone}
+use Rattle.el_lines.specs.LineStates.{LacksByte}
 use Rattle.el_lines.specs.within.Places.{StandsFirst}
 
 -- one digit more
@@ -39,14 +39,14 @@ front_value text i =
     rw whole (grows (digits_value 10 (take i text)) (drop i text))
 
 -- digits aren't blanks
-digits_no_blank : (text : List ℕ) → AllPass is_ascii_digit text → HasNone 32 text
+digits_no_blank : (text : List ℕ) → AllPass is_ascii_digit text → LacksByte 32 text
 digits_no_blank [] digits = tt
 digits_no_blank (c ∷ text) digits =
     let first = All-head (λ (b : ℕ). is_ascii_digit b ≡ true) c text digits in
     (λ blank. absurd (let no : is_ascii_digit 32 ≡ true = ap is_ascii_digit (sym blank) ∙ first in cc), digits_no_blank text (All-tail (λ (b : ℕ). is_ascii_digit b ≡ true) c text digits))
 
 -- the first blank of two texts that are equal
-same_first : (byte : ℕ) (a b c d : List ℕ) → HasNone byte a → HasNone byte c → a ++ byte ∷ b ≡ c ++ byte ∷ d → (a ≡ c) × (b ≡ d)
+same_first : (byte : ℕ) (a b c d : List ℕ) → LacksByte byte a → LacksByte byte c → a ++ byte ∷ b ≡ c ++ byte ∷ d → (a ≡ c) × (b ≡ d)
 same_first byte [] b [] d none none' e = (refl, let tails : b ≡ d = cc in tails)
 same_first byte [] b (y ∷ c) d none none' e = absurd (none'.0 (let heads : y ≡ byte = cc in heads))
 same_first byte (x ∷ a) b [] d none none' e = absurd (none.0 (let heads : x ≡ byte = cc in heads))
@@ -72,5 +72,5 @@ around_blank text blank file place first shows =
     (digits_no_blank shows.file_text shows.file_is.digits) first.none (sym shows.whole ∙ split_blank text blank first) in
     (rw (← same.0) shows.file_is, rw (← same.1) shows.place_is)
 
-pub has_blank : (text : List ℕ) (file place : ℕ) → HasNone 32 text → ShowsPlace text file place → ⊥
+pub has_blank : (text : List ℕ) (file place : ℕ) → LacksByte 32 text → ShowsPlace text file place → ⊥
 has_blank text file place none shows = all_mid (λ (b : ℕ). b ≢ 32) shows.file_text 32 shows.place_text (rw (← shows.whole) none) refl

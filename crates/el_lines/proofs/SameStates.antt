@@ -3,7 +3,7 @@ use Rattle.std.proofs.Common.{◌≡◌, ℕ, ◌+◌, List, [], ◌∷◌, ◌+
 use Rattle.el_base.proofs.Lists.{same_cut}
 use Rattle.el_lines.specs.Lines.{Cut, cut, cut_before, byte_before}
 use Rattle.el_lines.proofs.Cuts.{either}
-use Rattle.el_lines.specs.LineStates.{LineState, IsAt, between_lines, in_long_line, HasNoNewline}
+use Rattle.el_lines.specs.LineStates.{LineState, WasFed, between_lines, in_long_line, HasNoNewline}
 use Rattle.el_lines.proofs.LineCuts.{cut_after, cut_open}
 
 -- lines, each with its byte 10
@@ -54,7 +54,7 @@ same_fields s t limit rest skips =
     ∙ ap (λ (r : List ℕ). record { limit = t.limit; rest = r; skips = s.skips }) rest
     ∙ ap (λ (b : Bool). record { limit = t.limit; rest = t.rest; skips = b }) skips
 
-pub same_state : (s t : LineState) (fed : List ℕ) (given : ℕ) → s.limit ≡ t.limit → IsAt s fed given → IsAt t fed given → s ≡ t
+pub same_state : (s t : LineState) (fed : List ℕ) (given : ℕ) → s.limit ≡ t.limit → WasFed s fed given → WasFed t fed given → s ≡ t
 same_state s t fed given limit (between_lines a plain whole unended count) (between_lines b plain' whole' unended' count') =
     let same = same_front a s.rest b t.rest (sym whole ∙ whole') unended unended' (sym count ∙ count') in
     same_fields s t limit same.1 (plain ∙ sym plain')

@@ -3,7 +3,7 @@ use Rattle.std.proofs.Common.{◌≡◌, ℕ, ◌+◌, ◌<◌, ◌≤◌, List,
 use Rattle.std.proofs.lemmas.List.{length-map, length-take-le, get_or_default}
 use Rattle.el_base.proofs.Lists.{cut_at, all_append}
 use Rattle.el_lines.specs.Lines.{cut, LineEvent, line, too_long, event_of, lines}
-use Rattle.el_lines.specs.LineStates.{LineState, IsAt, between_lines, in_long_line, HasNoNewline}
+use Rattle.el_lines.specs.LineStates.{LineState, WasFed, between_lines, in_long_line, HasNoNewline}
 use Rattle.el_lines.specs.within.Places.{StandsFirst}
 use Rattle.el_lines.proofs.LineCuts.{cut_ended, cut_after, lines_after, lines_ended, lines_open}
 
@@ -39,8 +39,8 @@ pub not_all : (es : List LineEvent) (given : ℕ) (e : LineEvent) → slice_get 
 not_all es given e listed all = absurd (let none : slice_get es given ≡ None = rw all (get_end es) in cc)
 
 -- the line that ends is the next event
-pub next_ended : (s t : LineState) (fed : List ℕ) (given end : ℕ) → IsAt s fed given → StandsFirst 10 s.rest end → t ≡ record s { rest = drop (end + 1) s.rest }
-    → (slice_get (lines s.limit fed) given ≡ Some (event_of s.limit (take end s.rest))) × IsAt t fed (given + 1)
+pub next_ended : (s t : LineState) (fed : List ℕ) (given end : ℕ) → WasFed s fed given → StandsFirst 10 s.rest end → t ≡ record s { rest = drop (end + 1) s.rest }
+    → (slice_get (lines s.limit fed) given ≡ Some (event_of s.limit (take end s.rest))) × WasFed t fed (given + 1)
 next_ended s t fed given end (between_lines ended plain whole unended count) ends is =
     let front = take end s.rest in
     let after = drop (end + 1) s.rest in
@@ -58,9 +58,9 @@ next_ended s t fed given end (in_long_line ended long_line skips none whole unen
     absurd (let lt = ends.inside in omega (arith, ap length none))
 
 -- the open line is, where it is above the limit
-pub next_long : (s t : LineState) (fed : List ℕ) (given : ℕ) → IsAt s fed given → HasNoNewline s.rest → s.limit < length s.rest
+pub next_long : (s t : LineState) (fed : List ℕ) (given : ℕ) → WasFed s fed given → HasNoNewline s.rest → s.limit < length s.rest
     → t ≡ record { limit = s.limit; rest = []; skips = true }
-    → (slice_get (lines s.limit fed) given ≡ Some too_long) × IsAt t fed (given + 1)
+    → (slice_get (lines s.limit fed) given ≡ Some too_long) × WasFed t fed (given + 1)
 next_long s t fed given (between_lines ended plain whole unended count) none long is = (
   rw (whole, count) (next_listed s.limit ended s.rest too_long [] unended
       (lines_open s.limit s.rest none ∙ rw (lt-ltb s.limit (length s.rest) long) refl)),
@@ -70,7 +70,7 @@ next_long s t fed given (in_long_line ended long_line skips empty whole unended 
     absurd (omega (arith, ap length empty))
 
 -- and else there is none
-pub next_none : (s : LineState) (fed : List ℕ) (given : ℕ) → IsAt s fed given → HasNoNewline s.rest → length s.rest ≤ s.limit
+pub next_none : (s : LineState) (fed : List ℕ) (given : ℕ) → WasFed s fed given → HasNoNewline s.rest → length s.rest ≤ s.limit
     → given ≡ length (lines s.limit fed)
 next_none s fed given (between_lines ended plain whole unended count) none short =
     let all : lines s.limit fed ≡ map (event_of s.limit) (cut ended).whole = ap (lines s.limit) whole ∙ lines_after s.limit ended s.rest unended
@@ -83,22 +83,22 @@ next_none s fed given (in_long_line ended long_line skips empty whole unended no
     count ∙ sym (ap length all ∙ simp (length-append, length-map) refl)
 
 -- more bytes come
-pub fed_more : (s t : LineState) (fed bytes : List ℕ) (given : ℕ) → IsAt s fed given → s.skips ≡ false
-    → t ≡ record { limit = s.limit; rest = s.rest ++ bytes; skips = false } → IsAt t (fed ++ bytes) given
+pub fed_more : (s t : LineState) (fed bytes : List ℕ) (given : ℕ) → WasFed s fed given → s.skips ≡ false
+    → t ≡ record { limit = s.limit; rest = s.rest ++ bytes; skips = false } → WasFed t (fed ++ bytes) given
 fed_more s t fed bytes given (between_lines ended plain whole unended count) plainly is =
     rw is (between_lines ended refl (ap (λ (x : List ℕ). x ++ bytes) whole ∙ append_assoc ended s.rest bytes) unended count)
 fed_more s t fed bytes given (in_long_line ended long_line skips empty whole unended no_ten big count) plainly is = absurd cc
 
 -- and are skipped, where their line was too long
-pub fed_skipped : (s : LineState) (fed bytes : List ℕ) (given : ℕ) → IsAt s fed given → s.skips ≡ true → HasNoNewline bytes → IsAt s (fed ++ bytes) given
+pub fed_skipped : (s : LineState) (fed bytes : List ℕ) (given : ℕ) → WasFed s fed given → s.skips ≡ true → HasNoNewline bytes → WasFed s (fed ++ bytes) given
 fed_skipped s fed bytes given (between_lines ended plain whole unended count) skipping none = absurd cc
 fed_skipped s fed bytes given (in_long_line ended long_line skips empty whole unended no_ten big count) skipping none =
     in_long_line ended (long_line ++ bytes) skips empty (ap (λ (x : List ℕ). x ++ bytes) whole ∙ append_assoc ended long_line bytes) unended
     (all_append _ long_line bytes no_ten none) (simp length-append (omega arith)) count
 
 -- up to its byte 10
-pub fed_ended : (s t : LineState) (fed bytes : List ℕ) (given end : ℕ) → IsAt s fed given → s.skips ≡ true → StandsFirst 10 bytes end
-    → t ≡ record { limit = s.limit; rest = s.rest ++ drop (end + 1) bytes; skips = false } → IsAt t (fed ++ bytes) given
+pub fed_ended : (s t : LineState) (fed bytes : List ℕ) (given end : ℕ) → WasFed s fed given → s.skips ≡ true → StandsFirst 10 bytes end
+    → t ≡ record { limit = s.limit; rest = s.rest ++ drop (end + 1) bytes; skips = false } → WasFed t (fed ++ bytes) given
 fed_ended s t fed bytes given end (between_lines ended plain whole unended count) skipping ends is = absurd cc
 fed_ended s t fed bytes given end (in_long_line ended long_line skips empty whole unended no_ten big count) skipping ends is =
     let front = long_line ++ take end bytes in

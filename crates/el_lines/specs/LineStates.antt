@@ -24,26 +24,26 @@ pub record BufferState : Type 0 where
   pub looks : ℕ
 
 -- none of the bytes is this one
-abbrev pub HasNone : ℕ → List ℕ → Type 0
-HasNone byte bytes = AllByRecursion (λ b. b ≢ byte) bytes
+abbrev pub LacksByte : ℕ → List ℕ → Type 0
+LacksByte byte bytes = AllByRecursion (λ b. b ≢ byte) bytes
 
 -- none of the bytes is 10, the newline
 abbrev pub HasNoNewline : List ℕ → Type 0
-HasNoNewline bytes = HasNone 10 bytes
+HasNoNewline bytes = LacksByte 10 bytes
 
 -- These bytes were fed in all, and of their events (`lines`) the first `given` were given.
-pub data IsAt (s : LineState) (fed : List ℕ) (given : ℕ) : Type 0 where
+pub data WasFed (s : LineState) (fed : List ℕ) (given : ℕ) : Type 0 where
   -- an event for each line that has ended, and none for what is fed after these lines
   between_lines : (ended : List ℕ) → s.skips ≡ false → fed ≡ ended ++ s.rest → (cut ended).open_line ≡ []
-      → given ≡ length (cut ended).whole → IsAt s fed given
+      → given ≡ length (cut ended).whole → WasFed s fed given
   -- one more for the open line after them, which is above the limit
   in_long_line : (ended open_line : List ℕ) → s.skips ≡ true → s.rest ≡ [] → fed ≡ ended ++ open_line
       → (cut ended).open_line ≡ [] → HasNoNewline open_line → s.limit < length open_line
-      → given ≡ length (cut ended).whole + 1 → IsAt s fed given
+      → given ≡ length (cut ended).whole + 1 → WasFed s fed given
 
 -- how many bytes belong to no event that was given
-abbrev pub held : LineState → ℕ
-held s = length s.rest
+abbrev pub held_bytes : LineState → ℕ
+held_bytes s = length s.rest
 
 -- an event that was given, as `lines` has it
 abbrev pub as_listed : given.LineEvent → LineEvent

@@ -14,6 +14,6 @@ as_said (node_line.Tx bytes) = tx bytes
 as_said (node_line.Drop txid) = dropped txid.0
 
 -- why a line wasn't read: it says nothing; or it gives a transaction, for which no memory was found
-abbrev pub IsRefused : List ℕ → NodeLineFault → Type 0
-IsRefused line fault.Line = (said : NodeLine) → ReadsNodeLine line said → ⊥
-IsRefused line fault.Memory = (bytes : List ℕ) × ReadsNodeLine line (tx bytes)
+abbrev pub IsLineRefused : List ℕ → NodeLineFault → Type 0
+IsLineRefused line fault.Line = (said : NodeLine) → ReadsNodeLine line said → ⊥
+IsLineRefused line fault.Memory = (bytes : List ℕ) × ReadsNodeLine line (tx bytes)

@@ -1,13 +1,13 @@
 // Parts of bytes.
 ghost use Rattle.std.specs.Prelude.{◌≡◌, ◌<◌, ◌≤◌, ◌⊎◌, ◌+◌, [], length, drop, take, vec_capacity, MatchOption};
-ghost use Rattle.el_lines.specs.LineStates.{HasNone};
+ghost use Rattle.el_lines.specs.LineStates.{LacksByte};
 ghost use Rattle.el_lines.specs.within.Places.{IsSearched, StandsFirst};
 
 use el_base::GhostCount;
 
 // Where the byte stands first.
 pub(crate) fn byte_at(bytes: &[u8], byte: u8) -> Option<usize>
-    ensures { MatchOption result (HasNone byte bytes.now) (λ place. StandsFirst byte bytes.now place) }
+    ensures { MatchOption result (LacksByte byte bytes.now) (λ place. StandsFirst byte bytes.now place) }
 {
     byte_from(bytes, byte, 0, &mut GhostCount::new())
 }
@@ -22,7 +22,7 @@ pub(crate) fn byte_from(
 ) -> Option<usize>
     requires { IsSearched byte bytes.now seen }
     ensures found { MatchOption result
-        (HasNone byte bytes.now) (λ place. StandsFirst byte bytes.now place) }
+        (LacksByte byte bytes.now) (λ place. StandsFirst byte bytes.now place) }
     ensures looks { MatchOption result
         (looks.new + seen ≡ looks.old + length bytes.now)
         (λ place. (seen ≤ place) × (looks.new + seen ≡ looks.old + (place + 1))) }

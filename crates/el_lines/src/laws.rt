@@ -3,14 +3,14 @@ ghost use Rattle.std.specs.Prelude.{◌≡◌, ◌++◌, ℕ, List};
 ghost use Rattle.el_lines.specs.Lines.{lines, added_lines};
 ghost use Rattle.el_lines.specs.NodeLines as said;
 ghost use Rattle.el_lines.specs.NodeLines.{ReadsNodeLine};
-ghost use Rattle.el_lines.specs.LineStates.{LineState, IsAt};
+ghost use Rattle.el_lines.specs.LineStates.{LineState, WasFed};
 
 /// Line buffers of one limit that were fed the same bytes, in whatever pieces, and have given as many events,
 /// are the same to their callers. So the pieces in which a peer's bytes come change none of the events that
 /// follow. It does nothing when it runs.
 pub fn cuts_do_not_matter()
     ensures { (one other : LineState) (fed : List ℕ) (given : ℕ) → one.limit ≡ other.limit
-        → IsAt one fed given → IsAt other fed given → one ≡ other }
+        → WasFed one fed given → WasFed other fed given → one ≡ other }
 {}
 
 /// A line of a node says one thing at most. It does nothing when it runs.

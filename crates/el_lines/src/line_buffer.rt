@@ -1,7 +1,7 @@
 // Bytes that come in pieces, cut into lines.
 ghost use Rattle.std.specs.Prelude.{◌≡◌, ℕ, List, [], ◌∷◌, ◌++◌, ◌+◌, ◌-◌, ◌*◌, ◌<◌, ◌≤◌, ◌⊎◌, length, slice_get, IsOk, IfOk, IfSome, IfNone, OnOk, OnErr, MatchOption, Ok, Some, None, true, false, take, drop};
 ghost use Rattle.el_lines.specs.Lines.{lines, too_long};
-ghost use Rattle.el_lines.specs.LineStates.{IsAt, held, as_listed, HasNoNewline};
+ghost use Rattle.el_lines.specs.LineStates.{WasFed, held_bytes, as_listed, HasNoNewline};
 ghost use Rattle.el_lines.specs.within.Places.{StandsFirst};
 
 use crate::bytes::{byte_from, bytes_before, bytes_from, give_back, leave_out};
@@ -68,7 +68,7 @@ impl LineBuffer {
     /// memory.
     pub fn new(alloc: Global, limit: usize) -> LineBuffer
         ensures limit { result.state.limit ≡ limit }
-        ensures at { IsAt result.state [] 0 }
+        ensures at { WasFed result.state [] 0 }
         ensures kept { result.kept ≡ 0 }
         ensures room { result.room ≡ 0 }
         ensures looks { result.looks + result.unsearched ≡ 0 }
@@ -86,8 +86,8 @@ impl LineBuffer {
     /// Takes the next piece of the peer's bytes, also where lines of earlier ones wait. It fails only where
     /// memory runs out.
     pub fn feed(&mut self, bytes: &[u8]) -> Result<(), OutOfMemory>
-        ensures at { (fed : List ℕ) (given : ℕ) → IsAt self.old.state fed given
-            → OnOk result (IsAt self.new.state (fed ++ bytes.now) given) }
+        ensures at { (fed : List ℕ) (given : ℕ) → WasFed self.old.state fed given
+            → OnOk result (WasFed self.new.state (fed ++ bytes.now) given) }
         // Where there is room for the piece, it is taken. No room is given back here.
         ensures fits { self.old.kept + length bytes.now ≤ self.old.room → result ≡ Ok tt }
         ensures room { self.old.room ≤ self.new.room }
@@ -97,9 +97,9 @@ impl LineBuffer {
         ensures refused_room { OnErr result
             ((self.new.kept ≡ self.old.kept) × (self.new.room ≡ self.old.room)) }
         ensures limit { self.new.state.limit ≡ self.old.state.limit }
-        ensures held { held self.new.state ≤ held self.old.state + length bytes.now }
+        ensures held { held_bytes self.new.state ≤ held_bytes self.old.state + length bytes.now }
         // Bytes that were given are let go.
-        ensures kept { self.new.kept ≤ 2 * held self.old.state + length bytes.now }
+        ensures kept { self.new.kept ≤ 2 * held_bytes self.old.state + length bytes.now }
         // However bytes are cut, no more are looked at than were fed.
         ensures looks { self.new.looks + self.new.unsearched
             ≤ self.old.looks + self.old.unsearched + length bytes.now }
@@ -124,33 +124,33 @@ impl LineBuffer {
     /// The next line, or None where no line has ended and none is too long. It fails only where the memory
     /// for a line's bytes runs out, and may then be called again.
     pub fn next_line(&mut self) -> Result<Option<LineEvent>, OutOfMemory>
-        ensures next { (fed : List ℕ) (given : ℕ) → IsAt self.old.state fed given
+        ensures next { (fed : List ℕ) (given : ℕ) → WasFed self.old.state fed given
             → IfOk result (λ found. MatchOption found
-            ((given ≡ length (lines self.old.state.limit fed)) × IsAt self.new.state fed given)
+            ((given ≡ length (lines self.old.state.limit fed)) × WasFed self.new.state fed given)
             (λ e. (slice_get (lines self.old.state.limit fed) given ≡ Some (as_listed e))
-            × IsAt self.new.state fed (given + 1))) }
+            × WasFed self.new.state fed (given + 1))) }
         // Where no event is left, or the next is no line, no memory is taken.
-        ensures none { (fed : List ℕ) (given : ℕ) → IsAt self.old.state fed given
+        ensures none { (fed : List ℕ) (given : ℕ) → WasFed self.old.state fed given
             → given ≡ length (lines self.old.state.limit fed) → result ≡ Ok None }
-        ensures too_long { (fed : List ℕ) (given : ℕ) → IsAt self.old.state fed given
+        ensures too_long { (fed : List ℕ) (given : ℕ) → WasFed self.old.state fed given
             → slice_get (lines self.old.state.limit fed) given ≡ Some too_long
             → result ≡ Ok (Some (LineEvent.TooLong self.old.state.limit)) }
         ensures refused { OnErr result (self.new.state ≡ self.old.state) }
         ensures limit { self.new.state.limit ≡ self.old.state.limit }
         ensures consumed { IfOk result (λ found.
-            IfSome found (λ e. held self.new.state < held self.old.state)) }
+            IfSome found (λ e. held_bytes self.new.state < held_bytes self.old.state)) }
         // What then waits is the start of one line.
         ensures waits { IfOk result (λ found. IfNone found
-            ((self.new.state ≡ self.old.state) × (held self.new.state ≤ self.old.state.limit))) }
+            ((self.new.state ≡ self.old.state) × (held_bytes self.new.state ≤ self.old.state.limit))) }
         // Bytes that were given are let go: all of them where no event is left.
-        ensures kept { self.new.kept ≤ 2 * held self.new.state }
-        ensures kept_none { IfOk result (λ found. IfNone found (self.new.kept ≡ held self.new.state)) }
+        ensures kept { self.new.kept ≤ 2 * held_bytes self.new.state }
+        ensures kept_none { IfOk result (λ found. IfNone found (self.new.kept ≡ held_bytes self.new.state)) }
         // Room isn't taken here, and is given back where nothing is held.
         ensures room { self.new.room ≤ self.old.room }
         ensures room_none { IfOk result (λ found. IfNone found
-            (held self.new.state ≡ 0 → self.new.room ≤ IDLE_ROOM)) }
+            (held_bytes self.new.state ≡ 0 → self.new.room ≤ IDLE_ROOM)) }
         // All of it stays where bytes are held, or where it is for few.
-        ensures room_stays { (0 < held self.new.state) ⊎ (self.old.room ≤ IDLE_ROOM)
+        ensures room_stays { (0 < held_bytes self.new.state) ⊎ (self.old.room ≤ IDLE_ROOM)
             → self.new.room ≡ self.old.room }
         ensures looks { OnOk result
             (self.new.looks + self.new.unsearched ≤ self.old.looks + self.old.unsearched) }
@@ -182,7 +182,7 @@ impl LineBuffer {
 
     // How many bytes are held.
     fn len(&self) -> usize
-        ensures { result ≡ held self.now.state }
+        ensures { result ≡ held_bytes self.now.state }
     {
         self.bytes.len() - self.start
     }
@@ -197,10 +197,10 @@ impl LineBuffer {
         ensures room { self.new.room ≡ self.old.room }
         ensures looks { MatchOption result
             (self.new.looks + self.new.unsearched ≤ self.old.looks + self.old.unsearched)
-            (λ end. self.new.looks + (held self.old.state - (end + 1))
+            (λ end. self.new.looks + (held_bytes self.old.state - (end + 1))
             ≤ self.old.looks + self.old.unsearched) }
         ensures unsearched { MatchOption result
-            (self.new.unsearched ≡ 0) (λ end. self.new.unsearched ≡ held self.old.state - end) }
+            (self.new.unsearched ≡ 0) (λ end. self.new.unsearched ≡ held_bytes self.old.state - end) }
     {
         let found = byte_from(
             bytes_from(self.bytes.as_slice(), self.start),
@@ -217,7 +217,7 @@ impl LineBuffer {
 
     // The line that ends there.
     fn copy_line(&self, end: usize) -> Result<Bytes, OutOfMemory>
-        requires { end ≤ held self.now.state }
+        requires { end ≤ held_bytes self.now.state }
         ensures { IfOk result (λ line. line ≡ take end self.now.state.rest) }
     {
         let held = bytes_from(self.bytes.as_slice(), self.start);
@@ -226,12 +226,12 @@ impl LineBuffer {
 
     // Goes on after the line that ends there.
     fn pass(&mut self, end: usize)
-        requires { end < held self.old.state }
+        requires { end < held_bytes self.old.state }
         ensures passed { self.new.state
             ≡ record self.old.state { rest = drop (end + 1) self.old.state.rest } }
-        ensures kept { self.new.kept ≤ 2 * held self.new.state }
+        ensures kept { self.new.kept ≤ 2 * held_bytes self.new.state }
         ensures room { self.new.room ≡ self.old.room }
-        ensures unsearched { self.new.unsearched ≡ held self.old.state - (end + 1) }
+        ensures unsearched { self.new.unsearched ≡ held_bytes self.old.state - (end + 1) }
         ensures looks { self.new.looks ≡ self.old.looks }
     {
         let start = self.start + end + 1;
@@ -270,7 +270,7 @@ impl LineBuffer {
         ensures room { self.old.room ≤ self.new.room }
         ensures taken { OnOk result (self.old.kept + length bytes.now ≤ self.new.room) }
         ensures refused { OnErr result (self.new ≡ self.old) }
-        ensures kept { OnOk result (self.new.kept ≤ 2 * held self.old.state + length bytes.now) }
+        ensures kept { OnOk result (self.new.kept ≤ 2 * held_bytes self.old.state + length bytes.now) }
         ensures unsearched { OnOk result
             (self.new.unsearched ≡ self.old.unsearched + length bytes.now) }
         ensures looks { self.new.looks ≡ self.old.looks }
@@ -284,10 +284,10 @@ impl LineBuffer {
     // Lets the bytes go that were given, and the room for them where no others are held.
     fn leave_out_given(&mut self)
         ensures same { self.new.state ≡ self.old.state }
-        ensures kept { self.new.kept ≡ held self.old.state }
+        ensures kept { self.new.kept ≡ held_bytes self.old.state }
         ensures room { self.new.room ≤ self.old.room }
-        ensures empty { held self.old.state ≡ 0 → self.new.room ≤ IDLE_ROOM }
-        ensures stays { (0 < held self.old.state) ⊎ (self.old.room ≤ IDLE_ROOM)
+        ensures empty { held_bytes self.old.state ≡ 0 → self.new.room ≤ IDLE_ROOM }
+        ensures stays { (0 < held_bytes self.old.state) ⊎ (self.old.room ≤ IDLE_ROOM)
             → self.new.room ≡ self.old.room }
         ensures unsearched { self.new.unsearched ≡ self.old.unsearched }
         ensures looks { self.new.looks ≡ self.old.looks }

@@ -4,7 +4,7 @@ ghost use Rattle.std.specs.List.{AllPass};
 ghost use Rattle.hex.specs.Hex.{is_hex_digit};
 ghost use Rattle.el_base.specs.Shown.{Shows};
 ghost use Rattle.el_lines.specs.NodeLines.{ShowsPlace, ShowsBytes, ReadsNodeLine};
-ghost use Rattle.el_lines.specs.ReadLines.{as_said, IsRefused};
+ghost use Rattle.el_lines.specs.ReadLines.{as_said, IsLineRefused};
 ghost use Rattle.el_lines.specs.within.Texts.{TextIsRefused};
 
 use crate::bytes::{byte_at, bytes_before, bytes_from};
@@ -113,7 +113,7 @@ fn hash_of(text: &[u8]) -> Result<Hash32, NodeLineFault>
 /// for a place. No memory is taken but for a transaction's bytes.
 pub fn read_node_line(alloc: Global, line: &[u8]) -> Result<NodeLine, NodeLineFault>
     ensures read { IfOk result (λ said. ReadsNodeLine line.now (as_said said)) }
-    ensures refused { IfErr result (IsRefused line.now) }
+    ensures refused { IfErr result (IsLineRefused line.now) }
 {
     if let Some(text) = after_word(line, b"block ") {
         return match place_of(text) {

@@ -5,7 +5,7 @@ use Rattle.el_outside.specs.Trace.{Trace, Message, Closing, GoesOn, longer, is_o
 use Rattle.el_outside.proofs.Traces.{goes_more, sent_stays_open, other_stays_open}
 use Rattle.el_chain.specs.Chains.{Chain}
 use Rattle.el_world.specs.World.{World, Event, Outs, is_client}
-use Rattle.el_world.specs.Run.{Closes as ToClose}
+use Rattle.el_world.specs.Run.{IsClosingOf}
 use Rattle.el_side.specs.Deeds.{Deed}
 use Rattle.el_lines.proofs.Cuts.{either}
 use Rattle.el_core.specs.State.{State}
@@ -52,7 +52,7 @@ stays_open s t w c ms sent cs ls next (Some q) p open' apart
 
 -- who is no client and isn't to be closed isn't lost
 not_lost : (w : World) (c : Option Closing) (p q : ℕ) → is_client p w ≡ false → IsNotClosed p c
-    → (is_client q w ≡ true) ⊎ ToClose c q → (p == q) ≡ false
+    → (is_client q w ≡ true) ⊎ IsClosingOf c q → (p == q) ≡ false
 not_lost w c p q missing apart (inl client) = elim (either (p == q)) [
   | inl h ↦ absurd (let e = eqb-true p q h in let f = rw e at missing in cc)
   | inr h ↦ h

@@ -3,7 +3,7 @@ use Rattle.std.proofs.Common.{ℕ, ◌≤◌, arith}
 use Rattle.el_outside.specs.Trace.{IsNextArrival}
 use Rattle.el_outside.specs.declared.link.Arrival.{Arrival}
 use Rattle.el_outside.specs.declared.link.Arrival.TheVariants as arrival
-use Rattle.el_core.specs.Arrivals.{IsAbove, IsUpTo}
+use Rattle.el_core.specs.Arrivals.{IsAbove, ComesUpTo}
 
 pub above_next : (last now : ℕ) (a : Arrival) → IsNextArrival last a now → IsAbove last a
 above_next last now (arrival.Opened p) next = next.0
@@ -12,7 +12,7 @@ above_next last now (arrival.Closed p) next = tt
 above_next last now arrival.Quiet next = tt
 above_next last now arrival.Ended next = tt
 
-pub up_to_next : (last now : ℕ) (a : Arrival) → IsNextArrival last a now → IsUpTo now a
+pub up_to_next : (last now : ℕ) (a : Arrival) → IsNextArrival last a now → ComesUpTo now a
 up_to_next last now (arrival.Opened p) next = next.1
 up_to_next last now (arrival.Bytes p n) next = tt
 up_to_next last now (arrival.Closed p) next = tt

@@ -22,7 +22,7 @@ use Rattle.el_side.specs.UnderWay.{IsUnderWay, before as not_moved}
 use Rattle.el_world.proofs.Sureness.{turn_sure, turns_sure}
 use Rattle.el_world.specs.Flights.{FliesAt, IsMoveOf}
 use Rattle.el_core.specs.State.{State, Stands, lent, asking_of}
-use Rattle.el_core.specs.Turn.{TookTurn, TurnFailed, IsWithin, KeepsChain, IsDone, stop_of}
+use Rattle.el_core.specs.Turn.{TookTurn, TurnFailed, IsWithin, KeepsChain, IsDone, turn_stop}
 use Rattle.el_model.specs.declared.fault.QueryFault.{QueryFault}
 use Rattle.el_loop.specs.within.Sending.{StoppedSending}
 use Rattle.el_loop.specs.within.Progress.{AllGhosts, asked_of, ClientsAreOpen, CanDeliver, Delivered, Snapshot, snapshot, failed, IsReady, Progress, Finished, Stopped}
@@ -315,7 +315,7 @@ module _ {G A Y K : Type 0} (of : AllGhosts G A Y K) where
       → (p : Progress of first all' before (snapshot s files y k))
       → (t : TurnFailed of.beneath (beneath s.ledger files) (beneath turned.ledger files') p.world p.left e)
       → y' ≡ y → ((sure : IsSure p.world.side) → leaves p.world.side.chain (t.stops_at sure).next)
-      → (of.beneath.files.tells → AllGrow (of.beneath.files.bytes files) (of.beneath.files.bytes files')) → stop ≡ stop_of e
+      → (of.beneath.files.tells → AllGrow (of.beneath.files.bytes files) (of.beneath.files.bytes files')) → stop ≡ turn_stop e
       → Stopped of leaves first all' stop before (snapshot turned files' y' k)
   stopped_turn leaves first all' before s turned files files' y y' k stop e p t same left grows is =
       let grown = λ (told : of.beneath.files.tells). all_grow_more p.world.side.files (of.beneath.files.bytes files)

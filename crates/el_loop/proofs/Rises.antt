@@ -16,7 +16,7 @@ use Rattle.el_loop.specs.declared.end.End.{End}
 use Rattle.el_loop.specs.declared.end.End.TheVariants as end
 use Rattle.el_loop.specs.declared.halt.Halt.{Halt}
 use Rattle.el_loop.specs.declared.halt.Halt.TheVariants as halt
-use Rattle.el_loop.specs.within.Sending.{LossOf, RisesFor, end_of, stop_of}
+use Rattle.el_loop.specs.within.Sending.{LossOf, RisesFor, end_of, halt_stop}
 use Rattle.el_loop.specs.within.Progress.{CountedSoFar}
 
 -- 1. Stops of a run
@@ -55,7 +55,7 @@ pub rises_other : {T : Type 0} {a b : ℕ} {h e : Halt} → a ≤ b → e ≢ h 
 rises_other {h = h} {e = e} more other = record { more = more; rose = λ is. absurd (other cc) }
 
 -- a turn failed
-pub rises_turn : {T : Type 0} (a b c : ℕ) (e : QueryFault) (h : Halt) → stop_of h ≡ turn.stop_of e → a ≤ b
+pub rises_turn : {T : Type 0} (a b c : ℕ) (e : QueryFault) (h : Halt) → halt_stop h ≡ turn.turn_stop e → a ≤ b
     → b ≤ c
     → (e ≡ step.DiskFailed → RoseBy b c 1) → RisesFor {T = T} a c halt.Disk (Err h)
 rises_turn a b c step.DiskFailed h is more further failed =
@@ -65,7 +65,7 @@ rises_turn a b c step.Memory halt.Link is more further failed = absurd cc
 rises_turn a b c step.Memory halt.Memory is more further failed =
     record { more = omega arith; rose = λ e. absurd cc }
 
-pub turn_no_link : {T : Type 0} (a b : ℕ) (e : QueryFault) (h : Halt) → stop_of h ≡ turn.stop_of e → a ≤ b
+pub turn_no_link : {T : Type 0} (a b : ℕ) (e : QueryFault) (h : Halt) → halt_stop h ≡ turn.turn_stop e → a ≤ b
     → RisesFor {T = T} a b halt.Link (Err h)
 turn_no_link a b step.DiskFailed halt.Disk is more = rises_other more (λ e. cc)
 turn_no_link a b step.DiskFailed halt.Link is more = absurd cc

@@ -28,7 +28,7 @@ use Rattle.el_loop.specs.declared.end.End.{End}
 use Rattle.el_loop.specs.declared.end.End.TheVariants as end
 use Rattle.el_loop.specs.declared.halt.Halt.{Halt}
 use Rattle.el_loop.specs.declared.halt.Halt.TheVariants as halt
-use Rattle.el_loop.specs.within.Sending.{stop_of, end_of}
+use Rattle.el_loop.specs.within.Sending.{halt_stop, end_of}
 use Rattle.el_loop.specs.within.Progress.{AllGhosts, ClientsAreOpen, Snapshot, snapshot, failed, IsReady, WentOn, Finished, StoppedIn, Going, taken_one}
 use Rattle.el_loop.proofs.Rises.{rose_next}
 use Rattle.el_loop.proofs.Arrivals.{all_stay, all_but_left, all_after, not_client}
@@ -460,7 +460,7 @@ module _ {G A Y K : Type 0} (of : AllGhosts G A Y K) where
       → ((traffic : Traffic) × WentBy of.link before.link now.link traffic × WentTo of.relay before.relay now.relay traffic
       × IsHalted of.beneath.files first node leaves (of.beneath.files.bytes now.files) (run_counts turns before now)
       traffic
-      (stop_of halt))
+      (halt_stop halt))
       → Told first node leaves turns before now (end_of halt)
   told_halt first node leaves turns before now halt.Disk t = t
   told_halt first node leaves turns before now halt.Link t = (t.0, t.1, t.2, inr t.3)

@@ -15,12 +15,12 @@ use Rattle.el_chain.specs.Chains.{Chain}
 use Rattle.el_world.specs.World.{World, Event, is_client, without_client}
 use Rattle.el_side.specs.Deeds as deed
 use Rattle.el_side.specs.Deeds.{Deed, link, failures}
-use Rattle.el_world.specs.Run.{lost_by, IsDeparture, Delivers, all, sends, loses as lets_go, to_others, unless_of, Closes as ToClose, Stop}
+use Rattle.el_world.specs.Run.{lost_by, IsDeparture, Delivers, all, sends, loses as lets_go, to_others, unless_of, IsClosingOf, Stop}
 use Rattle.el_lines.proofs.Cuts.{either}
 use Rattle.el_core.specs.State.{State, Stands}
 use Rattle.el_core.specs.Turn.{GoesTo, messages_of}
 use Rattle.el_loop.specs.declared.halt.Halt.{Halt}
-use Rattle.el_loop.specs.within.Sending.{stop_of, LossOf, Forgets, Sent, sent, loses, Unsent, AllOpen, OpenToClose, CanClose, Delivering, whole, broken, SentAll, StoppedSending, closing_left, first_some}
+use Rattle.el_loop.specs.within.Sending.{halt_stop, LossOf, Forgets, Sent, sent, loses, Unsent, AllOpen, OpenToClose, CanClose, Delivering, whole, broken, SentAll, StoppedSending, closing_left, first_some}
 use Rattle.el_outside.proofs.Traces.{sent_stays_open}
 use Rattle.el_loop.proofs.Openness.{closed_open, all_sent, all_others, client_open}
 
@@ -29,7 +29,7 @@ pub unsent_node : {G : Type 0} (tells : Type 0) (p : ℕ) (f : SendFault) (reaso
     (s : State G) (before after : Trace) (low high : ℕ)
     → p ≡ 0 → LossOf f reason h → (f ≡ fault.Gone → RoseBy low high 1) → (f ≡ fault.Memory → high ≡ low)
     → (tells → after ≡ before)
-    → Unsent tells p (stop_of h) s before low s after high
+    → Unsent tells p (halt_stop h) s before low s after high
 unsent_node tells p fault.Gone reason h s before after low high node lost gone memory same =
     rw lost.1 (record {
       node = node;
@@ -82,7 +82,7 @@ all_delivered w (m ∷ ms) c = sends w m ms c ms (option_to_list c) [] w (all_de
 
 -- some, then one is lost
 then_lost : (w : World) (front : List Message) (m : Message) (more : List Message) (c : Option Closing)
-    (reason : Why) → (is_client m.peer w ≡ true) ⊎ ToClose c m.peer → IsDeparture reason
+    (reason : Why) → (is_client m.peer w ≡ true) ⊎ IsClosingOf c m.peer → IsDeparture reason
     → Delivers w (front ++ m ∷ more) c (front ++ to_others m.peer more)
     (record { peer = m.peer; why = reason } ∷ option_to_list (unless_of m.peer c)) (lost_by reason ++ [])
     (without_client m.peer w)
@@ -114,14 +114,14 @@ stays_to_close : (s t : Trace) (ms : List Message) (c : Option Closing) → Goes
 stays_to_close s t ms None goes open' = tt
 stays_to_close s t ms (Some c) goes open' = sent_stays_open s t c.peer ms open' goes
 
-open_by_closing : (trace : Trace) (c : Option Closing) (p : ℕ) → ToClose c p → OpenToClose trace c
+open_by_closing : (trace : Trace) (c : Option Closing) (p : ℕ) → IsClosingOf c p → OpenToClose trace c
     → IsTrue (is_open trace p)
 open_by_closing trace None p is open' = absurd is
 open_by_closing trace (Some c) p is open' = rw is at open'
 
 -- to whom a message goes is open
 goes_open : (trace : Trace) (w : World) (c : Option Closing) (p : ℕ)
-    → (is_client p w ≡ true) ⊎ ToClose c p → AllOpen trace w.sessions → OpenToClose trace c
+    → (is_client p w ≡ true) ⊎ IsClosingOf c p → AllOpen trace w.sessions → OpenToClose trace c
     → IsTrue (is_open trace p)
 goes_open trace w c p (inl client) are open' = client_open trace w.sessions p client are
 goes_open trace w c p (inr is) are open' = open_by_closing trace c p is open'
@@ -195,7 +195,7 @@ step_sent w c ms sent' cs ls next m (Some p) differs
     (sym (others_and x.peer more m (λ e. differs (ap Some (sym e))))))) closed' lost' gone
 
 step_lost : (w : World) (c : Option Closing) (ms sent' : List Message) (cs : List Closing) (ls : List Deed)
-    (next : World) (m : Message) (reason : Why) → (is_client m.peer w ≡ true) ⊎ ToClose c m.peer
+    (next : World) (m : Message) (reason : Why) → (is_client m.peer w ≡ true) ⊎ IsClosingOf c m.peer
     → IsDeparture reason → Delivering w ms c sent' cs ls next None
     → Delivering w (ms ++ m ∷ []) c sent' (cs ++ record { peer = m.peer; why = reason } ∷ [])
     (ls ++ lost_by reason) (without_client m.peer w) (Some m.peer)
@@ -258,7 +258,7 @@ sent_go stands tells w rest c ms m lost s now later before mid after low middle 
 -- one more, whose client is lost
 sent_lost : {G : Type 0} (stands : G → Chain → Type 0) (tells : Type 0) (w : World) (rest : List Event)
     (c : Option Closing) (ms : List Message) (m : Message) (reason : Why) (s now later : State G)
-    (before mid after : Trace) (low middle high : ℕ) → (is_client m.peer w ≡ true) ⊎ ToClose c m.peer
+    (before mid after : Trace) (low middle high : ℕ) → (is_client m.peer w ≡ true) ⊎ IsClosingOf c m.peer
     → s.surplus ≡ None
     → IsDeparture reason → Forgets stands now m.peer later
     → RoseBy middle high (failures link (lost_by reason))
@@ -312,7 +312,7 @@ lost_is_one w c ms sent' cs ls next q p
     all_mid (λ (m : Message). m.peer ≡ p) front more x (rw split at to_one)
 
 to_client : (next : World) (surplus : Option ℕ) (c : Option Closing) (m : Message) → m.peer ≢ 0
-    → GoesTo next surplus c m → ((is_client m.peer next ≡ true) ⊎ ToClose c m.peer) × (surplus ≡ None)
+    → GoesTo next surplus c m → ((is_client m.peer next ≡ true) ⊎ IsClosingOf c m.peer) × (surplus ≡ None)
 to_client next surplus c m client (inl node) = absurd (client node)
 to_client next surplus c m client (inr is) = is
 

@@ -53,7 +53,7 @@ next_failed = deed.lost link ∷ []
 
 -- Each call of `next` brought an arrival, or failed. Each failed call of a device is one of those, or one
 -- that something was answered or closed for. The relay was offered what was broadcast.
-pub record IsCounted (c : Counts) (t : Traffic) (losses failed : List Deed) : Type 0 where
+pub record IsAccounted (c : Counts) (t : Traffic) (losses failed : List Deed) : Type 0 where
   pub calls : RoseBy c.calls_before c.calls_after (length t.arrivals + length failed)
   pub turns : length t.arrivals + length failed ≤ c.turns
   pub rose : Rose c.faults_before c.faults_after (losses ++ failed)
@@ -83,7 +83,7 @@ pub record IsRun {A : Type 0} (of_files : archive.Ghosts A) (first : World) (nod
   pub run : Run of_files first (taken node t.arrivals) t.messages t.closings losses world
   pub statuses : IsSure first.side → StatusesAreTold world
   pub grown : of_files.tells → AllGrow world.side.files files
-  pub counted : IsCounted c t losses failed
+  pub counted : IsAccounted c t losses failed
   pub acknowledged : IsSure first.side → IsLastTold first.side.chain t.messages world.side.chain
   pub crash : IsSure first.side → leaves world.side.chain world.side.chain
 
@@ -95,7 +95,7 @@ pub record IsHalted {A : Type 0} (of_files : archive.Ghosts A) (first : World) (
   pub losses : List Deed
   pub halts : Halts of_files first stop (taken node t.arrivals) t.messages t.closings losses
   pub grown : of_files.tells → AllGrow (files_left halts.stops) files
-  pub counted : IsCounted c t losses []
+  pub counted : IsAccounted c t losses []
   pub last : NoneEndsBefore t.arrivals
   pub flight : Chain
   pub is_flight : Flies halts.stops files flight

@@ -1,7 +1,7 @@
 // Why a run stops.
 ghost use Rattle.std.specs.Prelude.{◌≡◌, ◌≢◌};
 ghost use Rattle.el_core.specs.Turn as turn;
-ghost use Rattle.el_loop.specs.within.Sending.{LossOf, end_of, stop_of};
+ghost use Rattle.el_loop.specs.within.Sending.{LossOf, end_of, halt_stop};
 
 use crate::end::End;
 use el_outside::{SendFault, Why};
@@ -33,7 +33,7 @@ impl Halt {
 
 /// Why the run stops for the fault of a turn.
 pub fn halt_of(fault: StepFault) -> Halt
-    ensures { stop_of result ≡ turn.stop_of fault }
+    ensures { halt_stop result ≡ turn.turn_stop fault }
 {
     match fault {
         StepFault::DiskFailed => Halt::Disk,

@@ -7,11 +7,11 @@ ghost use Rattle.el_model.specs.Keeping.{LeavesEither};
 ghost use Rattle.el_model.specs.LedgerCalls.{KeepsBeside};
 ghost use Rattle.el_side.specs.Beneath.{ghosts};
 ghost use Rattle.el_core.specs.State.{State, Stands, AreUpTo, IsIdle};
-ghost use Rattle.el_core.specs.Arrivals.{with_all_bytes, IsAfterArrival, IsAbove, IsUpTo};
+ghost use Rattle.el_core.specs.Arrivals.{with_all_bytes, IsAfterArrival, IsAbove, ComesUpTo};
 ghost use Rattle.el_loop.specs.Counts.{counts_of, devices, IsCaused, failed_device};
 ghost use Rattle.el_loop.specs.Runs.{RunEnds, is_end};
 ghost use Rattle.el_loop.specs.Traffic.{Traffic, WentBy, WentTo};
-ghost use Rattle.el_loop.specs.within.Sending.{RisesFor, stop_of};
+ghost use Rattle.el_loop.specs.within.Sending.{RisesFor, halt_stop};
 ghost use Rattle.el_loop.specs.within.Progress.{ClientsAreOpen, IsReady, Finished, Stopped, StoppedIn, all_ghosts, snapshot, taken_one};
 
 use crate::end::End;
@@ -33,14 +33,17 @@ fn work_off<W: Threads + Sync, G: Ledger, A: Archive, Y: Relay, K: Link>(
     pace: &(dyn Pace + Sync),
 ) -> Result<(), Halt>
     requires live { G.is_live server.old.ledger }
-    ensures finished { let of = all_ghosts (ghosts ⟦<G as Ledger>⟧ ⟦<A as Archive>⟧) ⟦<Y as Relay>⟧ ⟦<K as Link>⟧ in
+    ensures finished { let of = all_ghosts (ghosts ⟦<G as Ledger>⟧ ⟦<A as Archive>⟧) ⟦<Y as Relay>⟧
+        ⟦<K as Link>⟧ in
         let was = snapshot server.old archive.old relay.old link.old in (world : World) (all : List Event)
         → Stands G.stands server.old world all → IsReady of world was
         → OnOk result (Finished of world all was (snapshot server.new archive.new relay.new link.new)) }
-    ensures stopped { let of = all_ghosts (ghosts ⟦<G as Ledger>⟧ ⟦<A as Archive>⟧) ⟦<Y as Relay>⟧ ⟦<K as Link>⟧ in
+    ensures stopped { let of = all_ghosts (ghosts ⟦<G as Ledger>⟧ ⟦<A as Archive>⟧) ⟦<Y as Relay>⟧
+        ⟦<K as Link>⟧ in
         let was = snapshot server.old archive.old relay.old link.old in (world : World) (all : List Event)
         → Stands G.stands server.old world all → IsReady of world was → IfErr result (λ halt. Stopped of
-        (LeavesEither G.tells_crash G.means G.moment G.left_since server.new.ledger) world all (stop_of halt)
+        (LeavesEither G.tells_crash G.means G.moment G.left_since server.new.ledger) world all
+        (halt_stop halt)
         was (snapshot server.new archive.new relay.new link.new)) }
     ensures idle { OnOk result (IsIdle server.new) }
     ensures live { OnOk result (G.is_live server.new.ledger) }
@@ -95,7 +98,7 @@ fn as_taken(arrival: Arrival, node: bool) -> Arrival
     ensures taken { (bytes : List ℕ)
         → with_all_bytes result bytes ≡ taken_one node (with_all_bytes arrival bytes) }
     ensures above { (last : ℕ) → IsAbove last arrival → IsAbove last result }
-    ensures up_to { (now : ℕ) → IsUpTo now arrival → IsUpTo now result }
+    ensures up_to { (now : ℕ) → ComesUpTo now arrival → ComesUpTo now result }
 {
     match arrival {
         Arrival::Bytes(0, _) if !node => Arrival::Quiet,
@@ -122,10 +125,12 @@ fn serve_arrival<W: Threads + Sync, G: Ledger, A: Archive, Y: Relay, K: Link>(
         → (K.tells → (next : World) (s : State G)
         → IsAfterArrival (with_all_bytes arrival bytes.now) world next s.surplus
         → ClientsAreOpen s next (K.trace link.old))
-        → OnOk result (Finished (all_ghosts (ghosts ⟦<G as Ledger>⟧ ⟦<A as Archive>⟧) ⟦<Y as Relay>⟧ ⟦<K as Link>⟧)
+        → OnOk result (Finished
+        (all_ghosts (ghosts ⟦<G as Ledger>⟧ ⟦<A as Archive>⟧) ⟦<Y as Relay>⟧ ⟦<K as Link>⟧)
         (after_hearing (with_all_bytes arrival bytes.now) world)
         (events world (with_all_bytes arrival bytes.now))
-        (snapshot server.old archive.old relay.old link.old) (snapshot server.new archive.new relay.new link.new)) }
+        (snapshot server.old archive.old relay.old link.old)
+        (snapshot server.new archive.new relay.new link.new)) }
     ensures stopped { (world : World) → Stands G.stands server.old world [] → AllTold world
         → (A.tells → AllGrow world.side.files (A.bytes archive.old))
         → (K.tells → (next : World) (s : State G)
@@ -134,11 +139,12 @@ fn serve_arrival<W: Threads + Sync, G: Ledger, A: Archive, Y: Relay, K: Link>(
         → IfErr result (λ halt.
         StoppedIn (all_ghosts (ghosts ⟦<G as Ledger>⟧ ⟦<A as Archive>⟧) ⟦<Y as Relay>⟧ ⟦<K as Link>⟧)
         (LeavesEither G.tells_crash G.means G.moment G.left_since server.new.ledger)
-        world (with_all_bytes arrival bytes.now) (stop_of halt)
-        (snapshot server.old archive.old relay.old link.old) (snapshot server.new archive.new relay.new link.new)) }
+        world (with_all_bytes arrival bytes.now) (halt_stop halt)
+        (snapshot server.old archive.old relay.old link.old)
+        (snapshot server.new archive.new relay.new link.new)) }
     ensures idle { OnOk result (IsIdle server.new) }
     ensures live { OnOk result (G.is_live server.new.ledger) }
-    ensures numbers { (last now : ℕ) → last ≤ now → AreUpTo last server.old.clients → IsUpTo now arrival
+    ensures numbers { (last now : ℕ) → last ≤ now → AreUpTo last server.old.clients → ComesUpTo now arrival
         → OnOk result (AreUpTo now server.new.clients) }
     ensures keeps { A.tells → AllGrow (A.bytes archive.old) (A.bytes archive.new) }
     ensures same_calls { K.calls link.new ≡ K.calls link.old }
@@ -180,7 +186,8 @@ pub fn run<W: Threads + Sync, G: Ledger, A: Archive, Y: Relay, K: Link>(
         (devices server.new.ledger archive.new relay.new link.new)) traffic result }
     ensures causes { IsCaused (counts_of G.faults ⟦<A as Archive>⟧ ⟦<Y as Relay>⟧ ⟦<K as Link>⟧ options.turns
         (devices server.old.ledger archive.old relay.old link.old)
-        (devices server.new.ledger archive.new relay.new link.new)) (failed_device result) (result ≡ End.TurnsSpent) }
+        (devices server.new.ledger archive.new relay.new link.new)) (failed_device result)
+        (result ≡ End.TurnsSpent) }
     ensures keeps { A.tells → AllGrow (A.bytes archive.old) (A.bytes archive.new) }
     ensures beside { KeepsBeside ⟦<G as Ledger>⟧ server.old.ledger server.new.ledger }
 {

@@ -4,7 +4,7 @@ ghost use Rattle.el_outside.specs.Trace as trace;
 ghost use Rattle.el_world.specs.World.{World, Event};
 ghost use Rattle.el_core.specs.State.{AreUpTo, work};
 ghost use Rattle.el_core.specs.Turn.{messages_of, closing_of, outs_of};
-ghost use Rattle.el_loop.specs.within.Sending.{Sent, Unsent, CanSend, SentAll, StoppedSending, closing_left, first_some, Closes, RisesFor, stop_of};
+ghost use Rattle.el_loop.specs.within.Sending.{Sent, Unsent, CanSend, SentAll, StoppedSending, closing_left, first_some, Closes, RisesFor, halt_stop};
 ghost use Rattle.el_loop.specs.within.Progress.{CanDeliver, Delivered};
 
 use crate::halt::{Halt, loss_of};
@@ -22,7 +22,7 @@ fn send<G: Ledger, K: Link>(
 ) -> Result<Option<Peer>, Halt>
     ensures sent { IfOk result (λ lost. Sent G.stands K.tells (record { peer = p; text = text.now }) lost
         server.old (K.trace link.old) (K.faults link.old) server.new (K.trace link.new) (K.faults link.new)) }
-    ensures unsent { IfErr result (λ halt. Unsent K.tells p (stop_of halt)
+    ensures unsent { IfErr result (λ halt. Unsent K.tells p (halt_stop halt)
         server.old (K.trace link.old) (K.faults link.old) server.new (K.trace link.new) (K.faults link.new)) }
     ensures counts { RisesFor (K.faults link.old) (K.faults link.new) Halt.Link result }
     ensures no_disk { IfErr result (λ halt. halt ≢ Halt.Disk) }
@@ -76,7 +76,7 @@ fn send_all<G: Ledger, K: Link>(
         server.old (K.trace link.old) (K.faults link.old) server.new (K.trace link.new) (K.faults link.new)) }
     ensures stopped { (next : World) (rest : List Event) (closing : Option trace.Closing)
         → CanSend G.stands K.tells server.old next rest (K.trace link.old) closing (messages_of sends.now)
-        → IfErr result (λ halt. StoppedSending K.tells next (messages_of sends.now) (stop_of halt)
+        → IfErr result (λ halt. StoppedSending K.tells next (messages_of sends.now) (halt_stop halt)
         server.old (K.trace link.old) (K.faults link.old) server.new (K.trace link.new) (K.faults link.new)) }
     ensures counts { RisesFor (K.faults link.old) (K.faults link.new) Halt.Link result }
     ensures no_disk { IfErr result (λ halt. halt ≢ Halt.Disk) }
@@ -126,7 +126,7 @@ pub fn deliver<G: Ledger, K: Link>(
         server.old (K.trace link.old) (K.faults link.old) server.new (K.trace link.new) (K.faults link.new)) }
     ensures undelivered { (next : World) (rest : List Event)
         → CanDeliver G.stands K.tells server.old next rest (outs_of outs.now) (K.trace link.old)
-        → IfErr result (λ halt. StoppedSending K.tells next (outs_of outs.now).messages (stop_of halt)
+        → IfErr result (λ halt. StoppedSending K.tells next (outs_of outs.now).messages (halt_stop halt)
         server.old (K.trace link.old) (K.faults link.old) server.new (K.trace link.new) (K.faults link.new)) }
     ensures counts { RisesFor (K.faults link.old) (K.faults link.new) Halt.Link result }
     ensures no_disk { IfErr result (λ halt. halt ≢ Halt.Disk) }

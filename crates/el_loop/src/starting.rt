@@ -45,12 +45,14 @@ pub fn serve_from<W: Threads + Sync, G: Ledger, A: Archive, Y: Relay, K: Link>(
     // What was sent and closed is a run from the chain that the ledger stands for, and so it ends. It is a
     // run from a side that is unsure whatever the ledger stands for.
     ensures ends { (sure relays : Bool) (chain : Chain) → (sure ≡ true → G.stands ledger chain)
-        → (sure ≡ true → CachesStand caches chain chain) → desk ≡ empty_desk relays → (traffic : Traffic) × WentBy ⟦<K as Link>⟧ link.old link.new traffic × WentTo ⟦<Y as Relay>⟧ relay.old relay.new traffic
+        → (sure ≡ true → CachesStand caches chain chain) → desk ≡ empty_desk relays → (traffic : Traffic) ×
+        WentBy ⟦<K as Link>⟧ link.old link.new traffic × WentTo ⟦<Y as Relay>⟧ relay.old relay.new traffic
         × RunEnds ⟦<A as Archive>⟧ (initial_world sure chain options.magic options.limits tree
         (A.bytes archive.old) relays) options.node
         (LeavesEither G.tells_crash G.means G.moment G.left_since result.1)
         (A.bytes archive.new) (counts_of G.faults ⟦<A as Archive>⟧ ⟦<Y as Relay>⟧ ⟦<K as Link>⟧ options.turns
-        (devices ledger archive.old relay.old link.old) (devices result.1 archive.new relay.new link.new)) traffic result.0 }
+        (devices ledger archive.old relay.old link.old) (devices result.1 archive.new relay.new link.new))
+        traffic result.0 }
     // Whatever the devices tell, a failure that ends the run was counted.
     ensures causes { IsCaused (counts_of G.faults ⟦<A as Archive>⟧ ⟦<Y as Relay>⟧ ⟦<K as Link>⟧ options.turns
         (devices ledger archive.old relay.old link.old) (devices result.1 archive.new relay.new link.new))

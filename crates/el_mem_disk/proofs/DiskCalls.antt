@@ -2,7 +2,7 @@
 use Rattle.std.proofs.Common.{◌≡◌, ◌≢◌, ⊎_elim, ℕ, ◌≤◌, Bool, List, length, refl, sym, ◌∙◌, ap, subst, arith}
 use Rattle.std.proofs.lemmas.Bool.{cases_eq}
 use Rattle.el_outside.specs.Disk.{Image, Torn, Cut, OnFile, Follows, NothingNew, OnDisk}
-use Rattle.el_outside.specs.Images.{Kept, at_file, Leaves, LeftSince}
+use Rattle.el_outside.specs.Images.{Kept, at_file, LeavesImages, LeftSince}
 use Rattle.std.proofs.lemmas.List.{take_all}
 use Rattle.el_outside.proofs.Bytes.{torn_not}
 use Rattle.el_outside.proofs.Images.{at_here, at_other, left_now, only_now, write_follows, cut_follows, sync_keeps, sync_durable}
@@ -33,11 +33,11 @@ bytes_in files f = (files f).bytes
 module _ (a b : ℕ → FileState) (p q : List (ℕ → Kept)) where
   -- a call that changed nothing
   pub nothing_new : b ≡ a → NothingNew (Now a p) (Now b q)
-  nothing_new same c left = left_now (kept_in a) p c (subst (λ files. Leaves (kept_in files) c) same (only_now (kept_in b) q c left))
+  nothing_new same c left = left_now (kept_in a) p c (subst (λ files. LeavesImages (kept_in files) c) same (only_now (kept_in b) q c left))
 
   module _ (sound : (f : ℕ) → IsSound (a f)) (file : ℕ) (here : FileState) (is : b ≡ at_file a file here) where
-    leaves_of : (c : Image) → Now b q c → Leaves (at_file (kept_in a) file here.kept) c
-    leaves_of c left = subst (λ kept. Leaves kept c) ((λ i. kept_in (is i)) ∙ kept_at a file here) (only_now (kept_in b) q c left)
+    leaves_of : (c : Image) → Now b q c → LeavesImages (at_file (kept_in a) file here.kept) c
+    leaves_of c left = subst (λ kept. LeavesImages kept c) ((λ i. kept_in (is i)) ∙ kept_at a file here) (only_now (kept_in b) q c left)
 
     pub seen_here : (b file).bytes ≡ here.bytes
     seen_here = ap (λ files. (files file).bytes) is ∙ ap (λ (x : FileState). x.bytes) (at_here a file here)
@@ -45,10 +45,10 @@ module _ (a b : ℕ → FileState) (p q : List (ℕ → Kept)) where
     pub seen_others : (f : ℕ) → f ≢ file → (b f).bytes ≡ (a f).bytes
     seen_others f ne = ap (λ files. (files f).bytes) is ∙ ap (λ (x : FileState). x.bytes) (at_other a file here f ne)
 
-    follows_of : (step : Image → Image → Type 0) → Follows step (Leaves (kept_in a)) (Leaves (at_file (kept_in a) file here.kept)) → Follows step (Now a p) (Now b q)
+    follows_of : (step : Image → Image → Type 0) → Follows step (LeavesImages (kept_in a)) (LeavesImages (at_file (kept_in a) file here.kept)) → Follows step (Now a p) (Now b q)
     follows_of step follows c left = let from = follows c (leaves_of c left) in (from.0, left_now (kept_in a) p from.0 from.1, from.2)
 
-    nothing_of : NothingNew (Leaves (kept_in a)) (Leaves (at_file (kept_in a) file here.kept)) → NothingNew (Now a p) (Now b q)
+    nothing_of : NothingNew (LeavesImages (kept_in a)) (LeavesImages (at_file (kept_in a) file here.kept)) → NothingNew (Now a p) (Now b q)
     nothing_of new c left = left_now (kept_in a) p c (new c (leaves_of c left))
 
 module _ (a b : ℕ → FileState) (p q : List (ℕ → Kept)) (sound : (f : ℕ) → IsSound (a f)) (file : ℕ) where

@@ -4,12 +4,12 @@ use Rattle.std.specs.List.{list_any}
 use Rattle.std.proofs.lemmas.Bool.{cases_eq, cases_lt}
 use Rattle.std.proofs.lemmas.List.{take_all, take-append-le}
 use Rattle.el_outside.specs.Disk.{Image, Torn, Cut, OnFile, Follows, NothingNew, OnDisk}
-use Rattle.el_outside.specs.Images.{at_file, Leaves, IsImage}
+use Rattle.el_outside.specs.Images.{at_file, LeavesImages, IsImage}
 use Rattle.el_outside.specs.Moments.{LeftNow, Passes}
 use Rattle.el_outside.proofs.Images.{at_here, at_other, left_now, only_now, keep_written, is_synced}
-use Rattle.el_open_files.specs.Calls.{IsFront, Lasts, Idle, Changes, Settles}
+use Rattle.el_open_files.specs.Calls.{IsFront, Lasts, Idle, ChangesFile, Settles}
 use Rattle.el_mem_disk.specs.DiskFiles.{FileState, never_written, file_written}
-use Rattle.el_mem_disk.specs.Disks.{DiskState, state_of, kept_in, seen_on, moment_of, left_on, ticked, with_file, failed, starving}
+use Rattle.el_mem_disk.specs.Disks.{DiskState, disk_state, kept_in, seen_on, moment_of, left_on, ticked, with_file, failed, starving}
 use Rattle.el_mem_disk.specs.MemFolders.{folder_seen, folder_moment, folder_left, folder_names}
 use Rattle.el_mem_disk.specs.declared.disk.MemDisk.{MemDisk}
 use Rattle.el_mem_disk.specs.declared.mem_folder.MemFolder.{MemFolder}
@@ -91,7 +91,7 @@ lasts_none folder = record {
 }
 
 pub changes_none : (folder : MemFolder) (f : ℕ) (step : List ℕ → List ℕ → Type 0) → ((xs : List ℕ) → step xs xs)
-    → Changes folder_seen folder_moment folder_left folder_names f step folder folder
+    → ChangesFile folder_seen folder_moment folder_left folder_names f step folder folder
 changes_none folder f step nothing = record {
   others = λ g ne. refl;
   crash = λ c left. (c, left, record { here = nothing (c f); others = λ g ne. refl });
@@ -99,7 +99,7 @@ changes_none folder f step nothing = record {
 }
 
 pub changes_idle : (old new : MemFolder) (f : ℕ) (step : List ℕ → List ℕ → Type 0) → ((xs : List ℕ) → step xs xs)
-    → Idle folder_seen folder_moment folder_left folder_names old new → Changes folder_seen folder_moment folder_left folder_names f step old new
+    → Idle folder_seen folder_moment folder_left folder_names old new → ChangesFile folder_seen folder_moment folder_left folder_names f step old new
 changes_idle old new f step nothing idle = record {
   others = λ g ne. ap (λ (s : Image). s g) idle.same;
   crash = λ c left. (c, idle.crash c left, record { here = nothing (c f); others = λ g ne. refl });
@@ -125,8 +125,8 @@ module _ (old new : MemFolder) (names : (f : ℕ) → folder_names old f → fol
       → ((g : ℕ) → g ≢ file → seen_on new.disk g ≡ seen_on old.disk g)
       → Follows (OnFile file step) (LeftNow moment_of left_on old.disk) (LeftNow moment_of left_on new.disk)
       → Passes moment_of left_on old.disk new.disk
-      → Changes folder_seen folder_moment folder_left folder_names f wider old new
-  changed file f step wider widen is others crash passes = subst (λ g. Changes folder_seen folder_moment folder_left folder_names g wider old new) is (record {
+      → ChangesFile folder_seen folder_moment folder_left folder_names f wider old new
+  changed file f step wider widen is others crash passes = subst (λ g. ChangesFile folder_seen folder_moment folder_left folder_names g wider old new) is (record {
     others = others;
     crash = λ c left. let from = crash c left in (from.0, from.1, record { here = widen (from.0 file) (c file) from.2.here; others = from.2.others });
     lasts = lasts_by passes;
@@ -145,21 +145,21 @@ settles_idle old new f idle = record { others = λ g ne. ap (λ (s : Image). s g
 
 -- what might be left before a write may be left after it
 still_at : (a b : ℕ → FileState) (file at n : ℕ) (front : List ℕ) → b ≡ at_file a file (file_written at n front (a file)) → (c : Image)
-    → Leaves (kept_in a) c → Leaves (kept_in b) c
+    → LeavesImages (kept_in a) c → LeavesImages (kept_in b) c
 still_at a b file at n front is c leaves f = subst (λ (files : ℕ → FileState). IsImage (files f).kept (c f)) (sym is) (⊎_elim
     (λ (same : f ≡ file). subst (λ g. IsImage (at_file a file (file_written at n front (a file)) g).kept (c g)) (sym same)
     (subst (λ (x : FileState). IsImage x.kept (c file)) (sym (at_here a file (file_written at n front (a file)))) (keep_written (a file).kept at n (c file) (leaves file))))
     (λ ne. subst (λ (x : FileState). IsImage x.kept (c f)) (sym (at_other a file (file_written at n front (a file)) f ne)) (leaves f))
     (cases_eq f file))
 
-pub still : (old new : MemDisk) (file at n : ℕ) → SameOrWritten (state_of old).files (state_of new).files file at n
+pub still : (old new : MemDisk) (file at n : ℕ) → SameOrWritten (disk_state old).files (disk_state new).files file at n
     → NothingNew (LeftNow moment_of left_on new) (LeftNow moment_of left_on old)
 still old new file at n written c left =
-    let a = (state_of old).files in
-    let b = (state_of new).files in
-    let leaves = only_now (kept_in a) (state_of old).past c left in
-    left_now (kept_in b) (state_of new).past c (⊎_elim
-    (λ same. subst (λ (files : ℕ → FileState). Leaves (kept_in files) c) (sym same) leaves)
+    let a = (disk_state old).files in
+    let b = (disk_state new).files in
+    let leaves = only_now (kept_in a) (disk_state old).past c left in
+    left_now (kept_in b) (disk_state new).past c (⊎_elim
+    (λ same. subst (λ (files : ℕ → FileState). LeavesImages (kept_in files) c) (sym same) leaves)
     (λ some. still_at a b file at n some.0 some.1 c leaves)
     written)
 
@@ -181,7 +181,7 @@ front_of n at number f buf rest seen now is same long there filled =
     (record { there = there; bytes = take-append-le n buf rest long ∙ filled }))
 
 -- of a file that was never written a crash leaves nothing
-pub absent_on_disk : (disk : MemDisk) (f : ℕ) → (state_of disk).files f ≡ never_written → OnDisk f (seen_on disk) (LeftNow moment_of left_on disk)
+pub absent_on_disk : (disk : MemDisk) (f : ℕ) → (disk_state disk).files f ≡ never_written → OnDisk f (seen_on disk) (LeftNow moment_of left_on disk)
 absent_on_disk disk f is c left =
-    let image = subst (λ (x : FileState). IsImage x.kept (c f)) is (only_now (kept_in (state_of disk).files) (state_of disk).past c left f) in
+    let image = subst (λ (x : FileState). IsImage x.kept (c f)) is (only_now (kept_in (disk_state disk).files) (disk_state disk).past c left f) in
     is_synced [] (c f) image ∙ sym (ap (λ (x : FileState). x.bytes) is)

@@ -15,8 +15,8 @@ abbrev pub never_written : FileState
 never_written = record { bytes = []; kept = synced [] }
 
 -- the file by its number
-abbrev pub file_of : List FileState → ℕ → FileState
-file_of files f = slice_index_or files f never_written
+abbrev pub file_numbered : List FileState → ℕ → FileState
+file_numbered files f = slice_index_or files f never_written
 
 -- A file reads as one of its images, none of which is too long.
 pub record IsSound (file : FileState) : Type 0 where

@@ -3,7 +3,7 @@ use Rattle.std.specs.Prelude.{ℕ, List, ◌∷◌, length}
 use Rattle.el_outside.specs.Counts.{risen}
 use Rattle.el_outside.specs.Disk.{Image}
 use Rattle.el_outside.specs.Images.{Kept, at_file, LeftSince}
-use Rattle.el_mem_disk.specs.DiskFiles.{FileState, file_of}
+use Rattle.el_mem_disk.specs.DiskFiles.{FileState, file_numbered}
 use Rattle.el_mem_disk.specs.declared.failing.FailingCalls.{FailingCalls}
 use Rattle.el_mem_disk.specs.declared.disk.MemDisk.{MemDisk}
 use Rattle.el_mem_disk.specs.within.DiskPast.{known_at}
@@ -19,9 +19,9 @@ pub record DiskState : Type 0 where
   pub starved : ℕ
 
 -- the disk as contracts see it
-abbrev pub state_of : MemDisk → DiskState
-state_of disk = record {
-  files = file_of disk.files.items;
+abbrev pub disk_state : MemDisk → DiskState
+disk_state disk = record {
+  files = file_numbered disk.files.items;
   past = known_at disk.past;
   failing = disk.failing;
   calls = disk.calls;
@@ -35,15 +35,15 @@ kept_in files f = (files f).kept
 
 -- the bytes of each file, as a read gives them
 abbrev pub seen_on : MemDisk → Image
-seen_on disk f = ((state_of disk).files f).bytes
+seen_on disk f = ((disk_state disk).files f).bytes
 
 -- the moment: as many calls were made before
 abbrev pub moment_of : MemDisk → ℕ
-moment_of disk = length (state_of disk).past
+moment_of disk = length (disk_state disk).past
 
 -- what a crash since a moment might have left, by the model of a disk
 abbrev pub left_on : MemDisk → ℕ → Image → Type 0
-left_on disk = LeftSince (kept_in (state_of disk).files) (state_of disk).past
+left_on disk = LeftSince (kept_in (disk_state disk).files) (disk_state disk).past
 
 -- after a call more: what was known of the files before it joins the past
 abbrev pub ticked : DiskState → DiskState

@@ -7,8 +7,8 @@ use Rattle.el_mem_disk.specs.declared.disk.MemDisk.{MemDisk}
 use Rattle.el_mem_disk.specs.declared.mem_folder.MemFolder.{MemFolder}
 
 -- the disk below the folder
-abbrev pub below : MemFolder → MemDisk
-below folder = folder.disk
+abbrev pub disk_of_folder : MemFolder → MemDisk
+disk_of_folder folder = folder.disk
 
 -- what its files hold, as a read gives it: what the disk's hold
 abbrev pub folder_seen : MemFolder → Image

@@ -5,7 +5,7 @@ ghost use Rattle.el_outside.specs.Disk.{Image, over, Torn, Cut, OnFile, Follows,
 ghost use Rattle.el_outside.specs.Images.{at_file};
 ghost use Rattle.el_outside.specs.Moments.{LeftNow, Passes};
 ghost use Rattle.el_outside.specs.declared.archive.TheConstants.{SIZE_LIMIT};
-ghost use Rattle.el_mem_disk.specs.DiskFiles.{file_of, never_written, IsSound, file_written, file_cut, file_synced, crashed};
+ghost use Rattle.el_mem_disk.specs.DiskFiles.{file_numbered, never_written, IsSound, file_written, file_cut, file_synced, crashed};
 ghost use Rattle.el_mem_disk.specs.Failing.{is_failing, residue_of};
 
 use crate::disk_file::DiskFile;
@@ -32,15 +32,15 @@ pub struct MemDisk {
     calls: u64,
     faults: u64,
     starved: u64,
-    ghost sound: { (f : ℕ) → IsSound (file_of files.items f) },
+    ghost sound: { (f : ℕ) → IsSound (file_numbered files.items f) },
 }
 
 impl MemDisk {
-    ghost use Rattle.el_mem_disk.specs.Disks.{state_of, ticked, with_file, failed, starving};
+    ghost use Rattle.el_mem_disk.specs.Disks.{disk_state, ticked, with_file, failed, starving};
 
     /// A disk whose files were never written, and the calls that fail. Takes no memory.
     pub fn new(alloc: Global, failing: FailingCalls) -> MemDisk
-        ensures { state_of result ≡ record {
+        ensures { disk_state result ≡ record {
           files = λ f. never_written;
           past = [];
           failing = failing;
@@ -65,8 +65,8 @@ impl MemDisk {
     /// image is chosen by some numbers: for each file in turn one for its size, and one for each place up to
     /// its greatest size, whose byte it is where the crash may leave any. Fails only where memory runs out.
     pub fn crashed(&self, numbers: &[u64], failing: FailingCalls) -> Result<MemDisk, OutOfMemory>
-        ensures { IfOk result (λ disk. state_of disk ≡ record {
-          files = crashed (state_of self.now).files numbers.now;
+        ensures { IfOk result (λ disk. disk_state disk ≡ record {
+          files = crashed (disk_state self.now).files numbers.now;
           past = [];
           failing = failing;
           calls = 0;
@@ -88,14 +88,14 @@ impl MemDisk {
 
     /// How many calls were made, up to 2^64 - 1.
     pub fn calls(&self) -> u64
-        ensures { result ≡ (state_of self.now).calls }
+        ensures { result ≡ (disk_state self.now).calls }
     {
         self.calls
     }
 
     /// How many calls failed, up to 2^64 - 1.
     pub fn faults(&self) -> u64
-        ensures { result ≡ (state_of self.now).faults }
+        ensures { result ≡ (disk_state self.now).faults }
     {
         self.faults
     }
@@ -103,22 +103,22 @@ impl MemDisk {
     /// How many of the calls that failed found no memory in the disk itself, up to 2^64 - 1. Where this is 0,
     /// each call that was chosen to fail left what was chosen.
     pub fn starved(&self) -> u64
-        ensures { result ≡ (state_of self.now).starved }
+        ensures { result ≡ (disk_state self.now).starved }
     {
         self.starved
     }
 
     /// The bytes of a file, as a read gives them. It is no call of the disk.
     pub fn bytes(&self, file: u32) -> &[u8]
-        ensures { result.now ≡ ((state_of self.now).files file).bytes }
+        ensures { result.now ≡ ((disk_state self.now).files file).bytes }
     {
         bytes_of(self.files.as_slice(), file)
     }
 
     // Counts a call, and says whether it fails.
     fn tick(&mut self) -> bool
-        ensures same { state_of self.new ≡ ticked (state_of self.old) }
-        ensures fails { result ≡ is_failing (state_of self.old).failing (state_of self.new).calls }
+        ensures same { disk_state self.new ≡ ticked (disk_state self.old) }
+        ensures fails { result ≡ is_failing (disk_state self.old).failing (disk_state self.new).calls }
     {
         self.past = then(&self.past, &self.files);
         self.calls = self.calls.saturating_add(1);
@@ -127,7 +127,7 @@ impl MemDisk {
 
     // A call that fails and changes nothing.
     pub(crate) fn refuse(&mut self) -> DiskFailed
-        ensures { state_of self.new ≡ failed (ticked (state_of self.old)) }
+        ensures { disk_state self.new ≡ failed (ticked (disk_state self.old)) }
     {
         let _ = self.tick();
         self.fault()
@@ -135,7 +135,7 @@ impl MemDisk {
 
     // A failure, which is counted.
     fn fault(&mut self) -> DiskFailed
-        ensures { state_of self.new ≡ failed (state_of self.old) }
+        ensures { disk_state self.new ≡ failed (disk_state self.old) }
     {
         self.faults = self.faults.saturating_add(1);
         DiskFailed
@@ -143,7 +143,7 @@ impl MemDisk {
 
     // A failure for want of memory, which is counted.
     fn starve(&mut self) -> DiskFailed
-        ensures { state_of self.new ≡ starving (state_of self.old) }
+        ensures { disk_state self.new ≡ starving (disk_state self.old) }
     {
         self.starved = self.starved.saturating_add(1);
         self.fault()
@@ -151,12 +151,12 @@ impl MemDisk {
 
     // A write of which this front is seen.
     fn write(&mut self, file: u32, at: u64, n: usize, front: &[u8]) -> Result<(), OutOfMemory>
-        requires place { at ≤ length ((state_of self.old).files file).bytes }
+        requires place { at ≤ length ((disk_state self.old).files file).bytes }
         requires end { at + n < SIZE_LIMIT }
         requires front { length front.now ≤ n }
-        ensures ok { OnOk result (state_of self.new ≡ with_file (state_of self.old) file
-            (file_written at n front.now ((state_of self.old).files file))) }
-        ensures err { OnErr result (state_of self.new ≡ state_of self.old) }
+        ensures ok { OnOk result (disk_state self.new ≡ with_file (disk_state self.old) file
+            (file_written at n front.now ((disk_state self.old).files file))) }
+        ensures err { OnErr result (disk_state self.new ≡ disk_state self.old) }
     {
         write_file(self.alloc, &mut self.files, file, at, n, front)?;
         Ok(())
@@ -164,10 +164,11 @@ impl MemDisk {
 
     // A cut, which is seen or isn't.
     fn shorten(&mut self, file: u32, len: u64, is_seen: bool) -> Result<(), OutOfMemory>
-        requires { len ≤ length ((state_of self.old).files file).bytes }
-        ensures ok { OnOk result (state_of self.new
-            ≡ with_file (state_of self.old) file (file_cut len is_seen ((state_of self.old).files file))) }
-        ensures err { OnErr result (state_of self.new ≡ state_of self.old) }
+        requires { len ≤ length ((disk_state self.old).files file).bytes }
+        ensures ok { OnOk result (disk_state self.new
+            ≡ with_file (disk_state self.old) file
+            (file_cut len is_seen ((disk_state self.old).files file))) }
+        ensures err { OnErr result (disk_state self.new ≡ disk_state self.old) }
     {
         cut_file(self.alloc, &mut self.files, file, len, is_seen)?;
         Ok(())
@@ -175,9 +176,9 @@ impl MemDisk {
 
     // A sync.
     fn settle(&mut self, file: u32) -> Result<(), OutOfMemory>
-        ensures ok { OnOk result (state_of self.new
-            ≡ with_file (state_of self.old) file (file_synced ((state_of self.old).files file))) }
-        ensures err { OnErr result (state_of self.new ≡ state_of self.old) }
+        ensures ok { OnOk result (disk_state self.new
+            ≡ with_file (disk_state self.old) file (file_synced ((disk_state self.old).files file))) }
+        ensures err { OnErr result (disk_state self.new ≡ disk_state self.old) }
     {
         sync_file(self.alloc, &mut self.files, file)?;
         Ok(())
@@ -185,7 +186,7 @@ impl MemDisk {
 }
 
 impl Disk for MemDisk {
-    ghost use Rattle.el_mem_disk.specs.Disks.{state_of, seen_on, moment_of, left_on};
+    ghost use Rattle.el_mem_disk.specs.Disks.{disk_state, seen_on, moment_of, left_on};
     ghost use Rattle.el_mem_disk.specs.Disks.{ticked, with_file, failed, starving};
     ghost use Rattle.el_mem_disk.specs.within.DiskRules.{left_earlier, reads_as_an_image, is_short};
 
@@ -214,10 +215,10 @@ impl Disk for MemDisk {
         ensures crash { NothingNew (LeftNow moment_of left_on self.old) (LeftNow moment_of left_on self.new) }
         ensures time { Passes moment_of left_on self.old self.new }
         ensures called { moment_of self.new ≡ moment_of self.old + 1 }
-        ensures cause { HasCause (state_of self.old).faults (state_of self.new).faults result }
-        ensures done { OnOk result (state_of self.new ≡ ticked (state_of self.old)) }
-        ensures not_done { OnErr result (state_of self.new ≡ failed (ticked (state_of self.old))) }
-        ensures fails { is_err result ≡ is_failing (state_of self.old).failing (state_of self.new).calls }
+        ensures cause { HasCause (disk_state self.old).faults (disk_state self.new).faults result }
+        ensures done { OnOk result (disk_state self.new ≡ ticked (disk_state self.old)) }
+        ensures not_done { OnErr result (disk_state self.new ≡ failed (ticked (disk_state self.old))) }
+        ensures fails { is_err result ≡ is_failing (disk_state self.old).failing (disk_state self.new).calls }
     {
         if self.tick() {
             return Err(self.fault());
@@ -233,10 +234,10 @@ impl Disk for MemDisk {
         ensures crash { NothingNew (LeftNow moment_of left_on self.old) (LeftNow moment_of left_on self.new) }
         ensures time { Passes moment_of left_on self.old self.new }
         ensures called { moment_of self.new ≡ moment_of self.old + 1 }
-        ensures cause { HasCause (state_of self.old).faults (state_of self.new).faults result }
-        ensures done { OnOk result (state_of self.new ≡ ticked (state_of self.old)) }
-        ensures not_done { OnErr result (state_of self.new ≡ failed (ticked (state_of self.old))) }
-        ensures fails { is_err result ≡ is_failing (state_of self.old).failing (state_of self.new).calls }
+        ensures cause { HasCause (disk_state self.old).faults (disk_state self.new).faults result }
+        ensures done { OnOk result (disk_state self.new ≡ ticked (disk_state self.old)) }
+        ensures not_done { OnErr result (disk_state self.new ≡ failed (ticked (disk_state self.old))) }
+        ensures fails { is_err result ≡ is_failing (disk_state self.old).failing (disk_state self.new).calls }
     {
         let is_refused = self.tick();
         if is_refused {
@@ -257,20 +258,20 @@ impl Disk for MemDisk {
             → NothingNew (LeftNow moment_of left_on self.old) (LeftNow moment_of left_on self.new) }
         ensures time { Passes moment_of left_on self.old self.new }
         ensures called { moment_of self.new ≡ moment_of self.old + 1 }
-        ensures cause { HasCause (state_of self.old).faults (state_of self.new).faults result }
-        ensures done { OnOk result (state_of self.new ≡ with_file (ticked (state_of self.old)) file
-            (file_written at (length bytes.now) bytes.now ((state_of self.old).files file))) }
+        ensures cause { HasCause (disk_state self.old).faults (disk_state self.new).faults result }
+        ensures done { OnOk result (disk_state self.new ≡ with_file (ticked (disk_state self.old)) file
+            (file_written at (length bytes.now) bytes.now ((disk_state self.old).files file))) }
         ensures too_long_done { SIZE_LIMIT ≤ at + length bytes.now
-            → state_of self.new ≡ failed (ticked (state_of self.old)) }
+            → disk_state self.new ≡ failed (ticked (disk_state self.old)) }
         // The disk found no memory, and nothing of it was done; or it was to fail, and this is left.
         ensures not_done { at + length bytes.now < SIZE_LIMIT
-            → OnErr result ((state_of self.new ≡ starving (ticked (state_of self.old)))
-            ⊎ ((is_failing (state_of self.old).failing (state_of self.new).calls ≡ true)
-            × (state_of self.new ≡ failed (with_file (ticked (state_of self.old)) file
+            → OnErr result ((disk_state self.new ≡ starving (ticked (disk_state self.old)))
+            ⊎ ((is_failing (disk_state self.old).failing (disk_state self.new).calls ≡ true)
+            × (disk_state self.new ≡ failed (with_file (ticked (disk_state self.old)) file
             (file_written at (length bytes.now)
-            (take (residue_of (state_of self.old).failing.residue (length bytes.now)) bytes.now)
-            ((state_of self.old).files file)))))) }
-        ensures fails { is_failing (state_of self.old).failing (state_of self.new).calls ≡ true
+            (take (residue_of (disk_state self.old).failing.residue (length bytes.now)) bytes.now)
+            ((disk_state self.old).files file)))))) }
+        ensures fails { is_failing (disk_state self.old).failing (disk_state self.new).calls ≡ true
             → IsErr result }
     {
         let fails = self.tick();
@@ -294,16 +295,16 @@ impl Disk for MemDisk {
             (LeftNow moment_of left_on self.old) (LeftNow moment_of left_on self.new) }
         ensures time { Passes moment_of left_on self.old self.new }
         ensures called { moment_of self.new ≡ moment_of self.old + 1 }
-        ensures cause { HasCause (state_of self.old).faults (state_of self.new).faults result }
-        ensures done { OnOk result (state_of self.new ≡ with_file (ticked (state_of self.old)) file
-            (file_cut len true ((state_of self.old).files file))) }
+        ensures cause { HasCause (disk_state self.old).faults (disk_state self.new).faults result }
+        ensures done { OnOk result (disk_state self.new ≡ with_file (ticked (disk_state self.old)) file
+            (file_cut len true ((disk_state self.old).files file))) }
         // The disk found no memory, and nothing of it was done; or it was to fail, and then it is known to
         // the disk and isn't seen.
-        ensures not_done { OnErr result ((state_of self.new ≡ starving (ticked (state_of self.old)))
-            ⊎ ((is_failing (state_of self.old).failing (state_of self.new).calls ≡ true)
-            × (state_of self.new ≡ failed (with_file (ticked (state_of self.old)) file
-            (file_cut len false ((state_of self.old).files file)))))) }
-        ensures fails { is_failing (state_of self.old).failing (state_of self.new).calls ≡ true
+        ensures not_done { OnErr result ((disk_state self.new ≡ starving (ticked (disk_state self.old)))
+            ⊎ ((is_failing (disk_state self.old).failing (disk_state self.new).calls ≡ true)
+            × (disk_state self.new ≡ failed (with_file (ticked (disk_state self.old)) file
+            (file_cut len false ((disk_state self.old).files file)))))) }
+        ensures fails { is_failing (disk_state self.old).failing (disk_state self.new).calls ≡ true
             → IsErr result }
     {
         let fails = self.tick();
@@ -321,14 +322,14 @@ impl Disk for MemDisk {
         ensures crash { NothingNew (LeftNow moment_of left_on self.old) (LeftNow moment_of left_on self.new) }
         ensures time { Passes moment_of left_on self.old self.new }
         ensures called { moment_of self.new ≡ moment_of self.old + 1 }
-        ensures cause { HasCause (state_of self.old).faults (state_of self.new).faults result }
-        ensures done { OnOk result (state_of self.new ≡ with_file (ticked (state_of self.old)) file
-            (file_synced ((state_of self.old).files file))) }
+        ensures cause { HasCause (disk_state self.old).faults (disk_state self.new).faults result }
+        ensures done { OnOk result (disk_state self.new ≡ with_file (ticked (disk_state self.old)) file
+            (file_synced ((disk_state self.old).files file))) }
         // The disk found no memory, or it was to fail; either way nothing of it was done.
-        ensures not_done { OnErr result ((state_of self.new ≡ starving (ticked (state_of self.old)))
-            ⊎ ((is_failing (state_of self.old).failing (state_of self.new).calls ≡ true)
-            × (state_of self.new ≡ failed (ticked (state_of self.old))))) }
-        ensures fails { is_failing (state_of self.old).failing (state_of self.new).calls ≡ true
+        ensures not_done { OnErr result ((disk_state self.new ≡ starving (ticked (disk_state self.old)))
+            ⊎ ((is_failing (disk_state self.old).failing (disk_state self.new).calls ≡ true)
+            × (disk_state self.new ≡ failed (ticked (disk_state self.old))))) }
+        ensures fails { is_failing (disk_state self.old).failing (disk_state self.new).calls ≡ true
             → IsErr result }
     {
         if self.tick() {

@@ -2,7 +2,7 @@
 ghost use Rattle.std.specs.Prelude.{◌≡◌, ◌≤◌, ◌<◌, ◌+◌, ℕ, length, drop, IfOk, OnOk, OnErr};
 ghost use Rattle.el_outside.specs.Images.{at_file};
 ghost use Rattle.el_outside.specs.declared.archive.TheConstants.{SIZE_LIMIT};
-ghost use Rattle.el_mem_disk.specs.DiskFiles.{file_of, IsSound, file_written, file_cut, file_synced, crashed};
+ghost use Rattle.el_mem_disk.specs.DiskFiles.{file_numbered, IsSound, file_written, file_cut, file_synced, crashed};
 
 use crate::disk_file::DiskFile;
 use el_base::OutOfMemory;
@@ -10,7 +10,7 @@ use std::alloc::Global;
 
 // The bytes of a file as a read gives them; none for one that was never written.
 pub(crate) fn bytes_of(files: &[DiskFile], file: u32) -> &[u8]
-    ensures { result.now ≡ (file_of files.now file).bytes }
+    ensures { result.now ≡ (file_numbered files.now file).bytes }
 {
     match files.get(file as usize) {
         Some(file) => file.bytes(),
@@ -20,7 +20,7 @@ pub(crate) fn bytes_of(files: &[DiskFile], file: u32) -> &[u8]
 
 // Makes the list long enough for the file, by files that were never written.
 fn reach(alloc: Global, files: &mut Vec<DiskFile>, file: u32) -> Result<(), OutOfMemory>
-    ensures same { file_of files.new.items ≡ file_of files.old.items }
+    ensures same { file_numbered files.new.items ≡ file_numbered files.old.items }
     ensures there { OnOk result (file < length files.new.items) }
 {
     while files.len() <= file as usize {
@@ -38,12 +38,12 @@ pub(crate) fn write_file(
     n: usize,
     front: &[u8],
 ) -> Result<(), OutOfMemory>
-    requires place { at ≤ length (file_of files.old.items file).bytes }
+    requires place { at ≤ length (file_numbered files.old.items file).bytes }
     requires end { at + n < SIZE_LIMIT }
     requires front { length front.now ≤ n }
-    ensures ok { OnOk result (file_of files.new.items ≡ at_file (file_of files.old.items) file
-        (file_written at n front.now (file_of files.old.items file))) }
-    ensures err { OnErr result (file_of files.new.items ≡ file_of files.old.items) }
+    ensures ok { OnOk result (file_numbered files.new.items ≡ at_file (file_numbered files.old.items) file
+        (file_written at n front.now (file_numbered files.old.items file))) }
+    ensures err { OnErr result (file_numbered files.new.items ≡ file_numbered files.old.items) }
 {
     reach(alloc, files, file)?;
     files[file as usize].write(alloc, at, n, front)?;
@@ -58,10 +58,11 @@ pub(crate) fn cut_file(
     len: u64,
     is_seen: bool,
 ) -> Result<(), OutOfMemory>
-    requires { len ≤ length (file_of files.old.items file).bytes }
-    ensures ok { OnOk result (file_of files.new.items
-        ≡ at_file (file_of files.old.items) file (file_cut len is_seen (file_of files.old.items file))) }
-    ensures err { OnErr result (file_of files.new.items ≡ file_of files.old.items) }
+    requires { len ≤ length (file_numbered files.old.items file).bytes }
+    ensures ok { OnOk result (file_numbered files.new.items
+        ≡ at_file (file_numbered files.old.items) file
+        (file_cut len is_seen (file_numbered files.old.items file))) }
+    ensures err { OnErr result (file_numbered files.new.items ≡ file_numbered files.old.items) }
 {
     reach(alloc, files, file)?;
     files[file as usize].cut(alloc, len, is_seen)?;
@@ -74,9 +75,9 @@ pub(crate) fn sync_file(
     files: &mut Vec<DiskFile>,
     file: u32,
 ) -> Result<(), OutOfMemory>
-    ensures ok { OnOk result (file_of files.new.items
-        ≡ at_file (file_of files.old.items) file (file_synced (file_of files.old.items file))) }
-    ensures err { OnErr result (file_of files.new.items ≡ file_of files.old.items) }
+    ensures ok { OnOk result (file_numbered files.new.items
+        ≡ at_file (file_numbered files.old.items) file (file_synced (file_numbered files.old.items file))) }
+    ensures err { OnErr result (file_numbered files.new.items ≡ file_numbered files.old.items) }
 {
     reach(alloc, files, file)?;
     files[file as usize].sync(alloc)?;
@@ -99,8 +100,8 @@ pub(crate) fn crash(
     files: &[DiskFile],
     numbers: &[u64],
 ) -> Result<Vec<DiskFile>, OutOfMemory>
-    requires { (f : ℕ) → IsSound (file_of files.now f) }
-    ensures { IfOk result (λ all. file_of all.items ≡ crashed (file_of files.now) numbers.now) }
+    requires { (f : ℕ) → IsSound (file_numbered files.now f) }
+    ensures { IfOk result (λ all. file_numbered all.items ≡ crashed (file_numbered files.now) numbers.now) }
 {
     let mut all = Vec::new(alloc);
     let mut rest = numbers;

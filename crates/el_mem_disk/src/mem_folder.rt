@@ -2,7 +2,7 @@
 ghost use Rattle.std.specs.Prelude.{◌≡◌, ◌<◌, ℕ, ◌==◌, true, false, length, IfOk, IfErr};
 ghost use Rattle.std.specs.List.{list_any};
 ghost use Rattle.std.specs.IoError.{error_kind};
-ghost use Rattle.el_mem_disk.specs.DiskFiles.{file_of, never_written};
+ghost use Rattle.el_mem_disk.specs.DiskFiles.{file_numbered, never_written};
 
 use crate::disk::MemDisk;
 use crate::failing::FailingCalls;
@@ -33,7 +33,7 @@ pub struct MemFolder {
     most: usize,
     interrupted: Vec<u64>,
     ghost absent: { (f : ℕ) → list_any (λ n. f == n) made.items ≡ false
-        → file_of disk.files.items f ≡ never_written },
+        → file_numbered disk.files.items f ≡ never_written },
     ghost kept: { (f : ℕ) → list_any (λ n. f == n) named.items ≡ true
         → list_any (λ n. f == n) made.items ≡ true },
 }
@@ -49,9 +49,9 @@ impl MemFolder {
     ghost use Rattle.el_outside.specs.Disk.{NothingNew};
     ghost use Rattle.el_outside.specs.Moments.{LeftNow};
     ghost use Rattle.el_open_files.specs.Calls.{Idle};
-    ghost use Rattle.el_mem_disk.specs.MemFolders.{folder_seen, folder_moment, folder_left, folder_has, folder_names, below};
+    ghost use Rattle.el_mem_disk.specs.MemFolders.{folder_seen, folder_moment, folder_left, folder_has, folder_names, disk_of_folder};
     ghost use Rattle.el_outside.specs.Counts.{risen};
-    ghost use Rattle.el_mem_disk.specs.Disks.{state_of};
+    ghost use Rattle.el_mem_disk.specs.Disks.{disk_state};
 
     /// A folder without files. A read or a write moves so many bytes at most, a read one at least; these
     /// calls of its disk fail, and those with these numbers are interrupted. Takes no memory.
@@ -62,7 +62,7 @@ impl MemFolder {
         interrupted: Vec<u64>,
     ) -> MemFolder
         ensures none { (f : ℕ) → folder_has result f ≡ false }
-        ensures files { (state_of (below result)).files ≡ (λ f. never_written) }
+        ensures files { (disk_state (disk_of_folder result)).files ≡ (λ f. never_written) }
     {
         MemFolder {
             alloc,
@@ -76,14 +76,14 @@ impl MemFolder {
 
     /// The disk below.
     pub fn into_disk(self) -> MemDisk
-        ensures { result ≡ below self }
+        ensures { result ≡ disk_of_folder self }
     {
         self.disk
     }
 
     // Whether the next call of the disk is interrupted.
     fn is_interrupted(&self) -> bool
-        ensures { result ≡ list_any (λ n. risen (state_of (below self.now)).calls 1 == n)
+        ensures { result ≡ list_any (λ n. risen (disk_state (disk_of_folder self.now)).calls 1 == n)
             self.now.interrupted.items }
     {
         is_listed(

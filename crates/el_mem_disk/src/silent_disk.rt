@@ -15,7 +15,7 @@ pub struct SilentDisk {
 }
 
 impl SilentDisk {
-    ghost use Rattle.el_mem_disk.specs.Disks.{state_of};
+    ghost use Rattle.el_mem_disk.specs.Disks.{disk_state};
     ghost use Rattle.el_mem_disk.specs.SilentDisks.{inner};
 
     /// A disk that does what this one does. Takes no memory.

@@ -24,8 +24,8 @@ use Rattle.el_mempool.specs.declared.held.KeptTx.{KeptTx}
 use Rattle.el_mempool.specs.declared.entry.PoolLimits.{PoolLimits}
 use Rattle.el_mempool.specs.Sift.{output_held, named, is_confirmed, held_by, may_join}
 use Rattle.el_mempool.specs.Refusals.{is_kept, tx_refusal}
-use Rattle.el_mempool.specs.Unconfirmed.{has_script, concerns, entry}
-use Rattle.el_mempool.specs.Standing.{source_at, sources, kept_tx, StandsFor, AreChanged, is_at_script}
+use Rattle.el_mempool.specs.Unconfirmed.{has_script, concerns_script, entry}
+use Rattle.el_mempool.specs.Standing.{source_at, sources, kept_tx, KeptStandFor, AreChanged, is_at_script}
 use Rattle.el_mempool.proofs.Sifting.{AllJoin, joins_of}
 use Rattle.el_mempool.proofs.Confirmed.{hash_self, hash_turned}
 use Rattle.el_mempool.proofs.Named.{AreNamed, held_more, AllNamed, all_named}
@@ -68,20 +68,20 @@ entry_stays chain kept t u fresh h =
     let flags = flag_more chain kept t u.inputs fresh h in
     rw (held, flags) refl
 
-concerns_stays : (chain : Chain) (kept : List Tx) (t u : Tx) (s : List ℕ) → AreNamed chain kept u.inputs → concerns chain (kept ++ t ∷ []) s u ≡ concerns chain kept s u
+concerns_stays : (chain : Chain) (kept : List Tx) (t u : Tx) (s : List ℕ) → AreNamed chain kept u.inputs → concerns_script chain (kept ++ t ∷ []) s u ≡ concerns_script chain kept s u
 concerns_stays chain kept t u s h = ap (λ l. funds s u || list_any (has_script s) l) (held_more chain kept (t ∷ []) u.inputs h)
 
 -- whether what is seen of a transaction differs
 abbrev pub is_new_at : Chain → List Tx → Tx → Hash32 → Tx → Bool
-is_new_at chain kept t s u = same_hash (txid t) (txid u) && concerns chain (kept ++ t ∷ []) s.0 u
+is_new_at chain kept t s u = same_hash (txid t) (txid u) && concerns_script chain (kept ++ t ∷ []) s.0 u
 
 seen_before : (chain : Chain) (kept : List Tx) (t u : Tx) (s : List ℕ) → is_kept (txid t) kept ≡ false
-    → seen chain (only t) (kept ++ t ∷ []) s u ≡ where_both (λ (v : Tx). not (only t (txid v))) (concerns chain kept s) (entry chain kept) u
-seen_before chain kept t u s new = ap (λ l. where_both (λ (v : Tx). not (only t (txid v))) (concerns chain l s) (entry chain l) u) (before_is t kept new)
+    → seen chain (only t) (kept ++ t ∷ []) s u ≡ where_both (λ (v : Tx). not (only t (txid v))) (concerns_script chain kept s) (entry chain kept) u
+seen_before chain kept t u s new = ap (λ l. where_both (λ (v : Tx). not (only t (txid v))) (concerns_script chain l s) (entry chain l) u) (before_is t kept new)
 
 seen_after : (chain : Chain) (kept : List Tx) (t u : Tx) (s : List ℕ)
-    → seen chain nothing (kept ++ t ∷ []) s u ≡ where_both (λ (v : Tx). true) (concerns chain (kept ++ t ∷ []) s) (entry chain (kept ++ t ∷ [])) u
-seen_after chain kept t u s = ap (λ l. where_both (λ (v : Tx). true) (concerns chain l s) (entry chain l) u) (all_stay (kept ++ t ∷ []))
+    → seen chain nothing (kept ++ t ∷ []) s u ≡ where_both (λ (v : Tx). true) (concerns_script chain (kept ++ t ∷ []) s) (entry chain (kept ++ t ∷ [])) u
+seen_after chain kept t u s = ap (λ l. where_both (λ (v : Tx). true) (concerns_script chain l s) (entry chain l) u) (all_stay (kept ++ t ∷ []))
 
 tells_old : (chain : Chain) (kept : List Tx) (t : Tx) (s : Hash32) (us : List Tx) → IsFree chain kept t → is_kept (txid t) us ≡ false → AllNamed chain kept us
     → AllByRecursion (TellsOf chain chain (only t) nothing (kept ++ t ∷ []) s (is_new_at chain kept t s)) us
@@ -95,13 +95,13 @@ tells_old chain kept t s (u ∷ us) free new h =
     same apart =
         let c = concerns_stays chain kept t u s.0 h.0 in
         let e = entry_stays chain kept t u free.unconfirmed h.0 in
-        seen_before chain kept t u s.0 free.new ∙ rw apart (ap (λ b. cond b (Some (entry chain kept u)) None) (sym c) ∙ ap (λ x. cond (concerns chain (kept ++ t ∷ []) s.0 u) (Some x) None) (sym e))
+        seen_before chain kept t u s.0 free.new ∙ rw apart (ap (λ b. cond b (Some (entry chain kept u)) None) (sym c) ∙ ap (λ x. cond (concerns_script chain (kept ++ t ∷ []) s.0 u) (Some x) None) (sym e))
         ∙ sym (seen_after chain kept t u s.0)
 
 tells_new : (chain : Chain) (kept : List Tx) (t : Tx) (s : Hash32) → IsFree chain kept t → TellsOf chain chain (only t) nothing (kept ++ t ∷ []) s (is_new_at chain kept t s) t
 tells_new chain kept t s free = (
   (λ h. before ∙ after_none (rw own at h)),
-  (λ h. rw own (by (concerns chain (kept ++ t ∷ []) s.0 t) (sym before ∙ h ∙ seen_after chain kept t t s.0))),
+  (λ h. rw own (by (concerns_script chain (kept ++ t ∷ []) s.0 t) (sym before ∙ h ∙ seen_after chain kept t t s.0))),
 )
   where
     own : same_hash (txid t) (txid t) ≡ true
@@ -110,7 +110,7 @@ tells_new chain kept t s free = (
     before : seen chain (only t) (kept ++ t ∷ []) s.0 t ≡ None
     before = rw own refl
 
-    after_none : concerns chain (kept ++ t ∷ []) s.0 t ≡ false → None ≡ seen chain nothing (kept ++ t ∷ []) s.0 t
+    after_none : concerns_script chain (kept ++ t ∷ []) s.0 t ≡ false → None ≡ seen chain nothing (kept ++ t ∷ []) s.0 t
     after_none none = sym (seen_after chain kept t t s.0 ∙ rw none refl)
 
     by : (b : Bool) → None ≡ cond b (Some (entry chain (kept ++ t ∷ []) t)) None → b ≡ false
@@ -132,7 +132,7 @@ inputs_at chain kept s (i ∷ is) = by (named chain kept i.from) (inputs_at chai
     by None e = e
     by (Some v) e = ap (λ b. has_script s v || b) e
 
-pub entry_at : (chain : Chain) (kept : List Tx) (s : List ℕ) (t : Tx) → is_at_script s (kept_tx chain kept t) ≡ concerns chain kept s t
+pub entry_at : (chain : Chain) (kept : List Tx) (s : List ℕ) (t : Tx) → is_at_script s (kept_tx chain kept t) ≡ concerns_script chain kept s t
 entry_at chain kept s t = ap (λ b. b || list_any (λ (x : Source). has_script s x.held) (sources chain kept t.inputs)) (outputs_at s t.outputs) ∙ ap (λ b. funds s t || b) (inputs_at chain kept s t.inputs)
 
 -- ---- together
@@ -154,13 +154,13 @@ old_others chain kept t s (u ∷ us) h =
     let apart : same_hash (txid t) (txid u) ≡ false = hash_turned (txid t) (txid u) ∙ parts.0 in
     rw apart (old_others chain kept t s us parts.1)
 
-new_only : (chain : Chain) (kept : List Tx) (t : Tx) (s : Hash32) → is_kept (txid t) kept ≡ false → list_any (is_new_at chain kept t s) (kept ++ t ∷ []) ≡ concerns chain (kept ++ t ∷ []) s.0 t
+new_only : (chain : Chain) (kept : List Tx) (t : Tx) (s : Hash32) → is_kept (txid t) kept ≡ false → list_any (is_new_at chain kept t s) (kept ++ t ∷ []) ≡ concerns_script chain (kept ++ t ∷ []) s.0 t
 new_only chain kept t s new =
     let own = hash_self (txid t) (txid t) refl in
-    list_any-append (is_new_at chain kept t s) kept (t ∷ []) ∙ ap (λ b. b || (is_new_at chain kept t s t || false)) (old_others chain kept t s kept new) ∙ rw own (or-false (concerns chain (kept ++ t ∷ []) s.0 t))
+    list_any-append (is_new_at chain kept t s) kept (t ∷ []) ∙ ap (λ b. b || (is_new_at chain kept t s t || false)) (old_others chain kept t s kept new) ∙ rw own (or-false (concerns_script chain (kept ++ t ∷ []) s.0 t))
 
 -- one more transaction changes the script hashes that it concerns
-pub arrival_changes : (limits : PoolLimits) (entries : List KeptTx) (chain : Chain) (kept : List Tx) (t : Tx) (scripts : List Hash32) → StandsFor entries chain kept → tx_refusal limits chain kept t ≡ None
+pub arrival_changes : (limits : PoolLimits) (entries : List KeptTx) (chain : Chain) (kept : List Tx) (t : Tx) (scripts : List Hash32) → KeptStandFor entries chain kept → tx_refusal limits chain kept t ≡ None
     → AllDiffer scripts → ((s : Hash32) → list_any (same_hash s) scripts ≡ is_at_script s.0 (kept_tx chain kept t)) → AreChanged chain kept chain (kept ++ t ∷ []) scripts
 arrival_changes limits entries chain kept t scripts h refused once are =
     let free = is_free limits chain kept t refused in

@@ -17,7 +17,7 @@ use Rattle.el_block.specs.Blocks.{AllDiffer}
 use Rattle.el_chain.specs.Chains.{Chain}
 use Rattle.el_chain.specs.Headers.{same_hash}
 use Rattle.el_mempool.specs.declared.entry.PoolEntry.{PoolEntry}
-use Rattle.el_mempool.specs.Unconfirmed.{put, shown_cmp, by_shown, concerns, entry, pool_history}
+use Rattle.el_mempool.specs.Unconfirmed.{put, shown_cmp, by_shown, concerns_script, entry, pool_history}
 use Rattle.el_mempool.specs.Refusals.{kept_with, spender_of}
 use Rattle.el_mempool.specs.Sift.{any_takes, is_taken}
 use Rattle.el_mempool.proofs.Dropping.{rest}
@@ -31,12 +31,12 @@ shown_total = on_total (λ (t : Tx). shown (txid t).0) nat_list_cmp_total
 -- what a client sees of a transaction at a script hash: nothing where it is gone or doesn't concern it
 abbrev pub seen : Chain → (Hash32 → Bool) → List Tx → List ℕ → Tx → Option PoolEntry
 seen chain gone all s =
-    where_both (λ (t : Tx). not (gone (txid t))) (concerns chain (rest gone all) s) (entry chain (rest gone all))
+    where_both (λ (t : Tx). not (gone (txid t))) (concerns_script chain (rest gone all) s) (entry chain (rest gone all))
 
 history_is : (chain : Chain) (gone : Hash32 → Bool) (all : List Tx) (s : List ℕ) → pool_history chain (rest gone all) s ≡ picked (seen chain gone all s) (by_shown all)
 history_is chain gone all s =
-    ap (λ l. map (entry chain (rest gone all)) (filter (concerns chain (rest gone all) s) l)) (filter_in_order shown_cmp shown_total (λ (t : Tx). not (gone (txid t))) all)
-    ∙ picked_is (λ (t : Tx). not (gone (txid t))) (concerns chain (rest gone all) s) (entry chain (rest gone all)) (by_shown all)
+    ap (λ l. map (entry chain (rest gone all)) (filter (concerns_script chain (rest gone all) s) l)) (filter_in_order shown_cmp shown_total (λ (t : Tx). not (gone (txid t))) all)
+    ∙ picked_is (λ (t : Tx). not (gone (txid t))) (concerns_script chain (rest gone all) s) (entry chain (rest gone all)) (by_shown all)
 
 -- where the same is seen of each transaction, the histories are the same
 pub history_same : (one two : Chain) (g h : Hash32 → Bool) (all : List Tx) (s : List ℕ) → Agree (seen one g all s) (seen two h all s) all
@@ -66,7 +66,7 @@ apart_from [] h = tt
 apart_from (t ∷ ts) h = (all_mapped (txid t) ts h.0, apart_from ts h.1)
 
 seen_keyed : (chain : Chain) (gone : Hash32 → Bool) (all : List Tx) (s : List ℕ) (t : Tx) → IfSome (seen chain gone all s t) (λ e. e.txid ≡ txid t)
-seen_keyed chain gone all s t = by (not (gone (txid t))) (concerns chain (rest gone all) s t)
+seen_keyed chain gone all s t = by (not (gone (txid t))) (concerns_script chain (rest gone all) s t)
   where
     by : (a b : Bool) → IfSome (cond a (cond b (Some (entry chain (rest gone all) t)) None) None) (λ e. e.txid ≡ txid t)
     by true true = refl

@@ -14,8 +14,8 @@ use Rattle.el_chain.specs.Headers.{same_hash}
 use Rattle.el_chain.specs.History.{funds}
 use Rattle.el_mempool.specs.declared.held.KeptTx.{KeptTx}
 use Rattle.el_mempool.specs.Sift.{output_among, named, may_join, sift, other_than}
-use Rattle.el_mempool.specs.Unconfirmed.{has_script, concerns, entry}
-use Rattle.el_mempool.specs.Standing.{source_at, sources, kept_tx, AreOnce, StandsFor, AreChanged}
+use Rattle.el_mempool.specs.Unconfirmed.{has_script, concerns_script, entry}
+use Rattle.el_mempool.specs.Standing.{source_at, sources, kept_tx, HaveDifferentTxids, KeptStandFor, AreChanged}
 use Rattle.el_mempool.proofs.Sifting.{stay, folds, kept_again, joins_of}
 use Rattle.el_mempool.proofs.Dropping.{rest, names_gone, IsDropped, AreUnconfirmed, among_rest, named_rest, held_rest, drops}
 use Rattle.el_mempool.proofs.Changes.{seen, apart_from}
@@ -75,8 +75,8 @@ once_rest gone (t ∷ ts) h = elim (cases_Bool (gone (txid t))) [
 ]
 
 -- The entries that aren't gone stand for the sift without the dropped one, over each chain over which all stood.
-pub stands_rest : (entries : List KeptTx) (chain : Chain) (gone : Hash32 → Bool) (id : Hash32) (kept : List Tx) → StandsFor entries chain kept → AreUnconfirmed chain gone → IsDropped id gone kept
-    → StandsFor (rest_entries gone entries) chain (sift chain (other_than id kept))
+pub stands_rest : (entries : List KeptTx) (chain : Chain) (gone : Hash32 → Bool) (id : Hash32) (kept : List Tx) → KeptStandFor entries chain kept → AreUnconfirmed chain gone → IsDropped id gone kept
+    → KeptStandFor (rest_entries gone entries) chain (sift chain (other_than id kept))
 stands_rest entries chain gone id kept h fresh law =
     let is = drops chain gone id kept fresh law h.sifted in
     record {
@@ -100,7 +100,7 @@ once_stayed p before (t ∷ ts) h = elim (cases_Bool (p before t)) [
 ]
 
 -- what the sift keeps over any chain stands for it
-pub stands_sifted : (chain : Chain) (kept : List Tx) → AreOnce kept → StandsFor (map (kept_tx chain (sift chain kept)) (sift chain kept)) chain (sift chain kept)
+pub stands_sifted : (chain : Chain) (kept : List Tx) → HaveDifferentTxids kept → KeptStandFor (map (kept_tx chain (sift chain kept)) (sift chain kept)) chain (sift chain kept)
 stands_sifted chain kept once = record {
   sifted = kept_again (may_join chain) kept;
   are = refl;
@@ -115,20 +115,20 @@ entry_rest chain gone ts t h =
     let flags = flag_rest gone ts t.inputs h in
     rw (held, flags) refl
 
-concerns_rest : (chain : Chain) (gone : Hash32 → Bool) (ts : List Tx) (t : Tx) (s : List ℕ) → names_gone gone t.inputs ≡ false → concerns chain (rest gone ts) s t ≡ concerns chain ts s t
+concerns_rest : (chain : Chain) (gone : Hash32 → Bool) (ts : List Tx) (t : Tx) (s : List ℕ) → names_gone gone t.inputs ≡ false → concerns_script chain (rest gone ts) s t ≡ concerns_script chain ts s t
 concerns_rest chain gone ts t s h = ap (λ l. funds s t || list_any (has_script s) l) (held_rest chain gone ts t.inputs h)
 
 -- a dropped one that concerns the script hash
 abbrev pub is_gone_at : Chain → (Hash32 → Bool) → List Tx → Hash32 → Tx → Bool
-is_gone_at chain gone kept s t = gone (txid t) && concerns chain kept s.0 t
+is_gone_at chain gone kept s t = gone (txid t) && concerns_script chain kept s.0 t
 
 tells_dropped : (chain : Chain) (gone : Hash32 → Bool) (id : Hash32) (kept : List Tx) (s : Hash32) (ts : List Tx) → IsDropped id gone ts
     → AllByRecursion (TellsOf chain chain nothing gone kept s (is_gone_at chain gone kept s)) ts
 tells_dropped chain gone id kept s [] law = tt
 tells_dropped chain gone id kept s (t ∷ ts) law = (by (cases_Bool (gone (txid t))), tells_dropped chain gone id kept s ts law.1)
   where
-    before : seen chain nothing kept s.0 t ≡ cond (concerns chain kept s.0 t) (Some (entry chain kept t)) None
-    before = ap (λ l. cond (concerns chain l s.0 t) (Some (entry chain l t)) None) (all_stay kept)
+    before : seen chain nothing kept s.0 t ≡ cond (concerns_script chain kept s.0 t) (Some (entry chain kept t)) None
+    before = ap (λ l. cond (concerns_script chain l s.0 t) (Some (entry chain l t)) None) (all_stay kept)
 
     none_at : (b : Bool) → cond b (Some (entry chain kept t)) None ≡ None → b ≡ false
     none_at false e = refl
@@ -139,18 +139,18 @@ tells_dropped chain gone id kept s (t ∷ ts) law = (by (cases_Bool (gone (txid 
         let parts = or_parts (same_hash (txid t) id) (names_gone gone t.inputs) (sym law.0 ∙ g) in
         let c = concerns_rest chain gone kept t s.0 parts.1 in
         let e = entry_rest chain gone kept t parts.1 in
-        before ∙ rw g (ap (λ b. cond b (Some (entry chain kept t)) None) (sym c) ∙ ap (λ x. cond (concerns chain (rest gone kept) s.0 t) (Some x) None) (sym e))
+        before ∙ rw g (ap (λ b. cond b (Some (entry chain kept t)) None) (sym c) ∙ ap (λ x. cond (concerns_script chain (rest gone kept) s.0 t) (Some x) None) (sym e))
 
     by : (gone (txid t) ≡ true) ⊎ (gone (txid t) ≡ false) → TellsOf chain chain nothing gone kept s (is_gone_at chain gone kept s) t
     by (inl g) =
         let off : seen chain gone kept s.0 t ≡ None = rw g refl in (
           (λ no_one. let here = rw g at no_one in before ∙ ap (λ b. cond b (Some (entry chain kept t)) None) here ∙ sym off),
-          (λ same. rw g (none_at (concerns chain kept s.0 t) (sym before ∙ same ∙ off))),
+          (λ same. rw g (none_at (concerns_script chain kept s.0 t) (sym before ∙ same ∙ off))),
         )
     by (inr g) = ((λ _. stays g), (λ _. rw g refl))
 
 -- dropping changes the script hashes that the dropped ones concern
-pub drop_changes : (entries : List KeptTx) (chain : Chain) (gone : Hash32 → Bool) (id : Hash32) (kept : List Tx) (scripts : List Hash32) → StandsFor entries chain kept → AreUnconfirmed chain gone
+pub drop_changes : (entries : List KeptTx) (chain : Chain) (gone : Hash32 → Bool) (id : Hash32) (kept : List Tx) (scripts : List Hash32) → KeptStandFor entries chain kept → AreUnconfirmed chain gone
     → IsDropped id gone kept → AllDiffer scripts → ((s : Hash32) → list_any (same_hash s) scripts ≡ list_any (is_gone_at chain gone kept s) kept)
     → AreChanged chain kept chain (sift chain (other_than id kept)) scripts
 drop_changes entries chain gone id kept scripts h unconfirmed law once are =

@@ -21,8 +21,8 @@ use Rattle.el_mempool.specs.declared.entry.PoolLimits.{PoolLimits}
 use Rattle.el_mempool.specs.declared.fault.PoolFault.{PoolFault}
 use Rattle.el_mempool.specs.declared.fault.PoolFault.TheVariants as refusal
 use Rattle.el_mempool.specs.Sift.{coin_named, output_among, named, is_confirmed, any_takes, is_taken, each_takes, held_by, total_held, may_join, joined, sift}
-use Rattle.el_mempool.specs.Refusals.{where_so, is_kept, missing, spender_of, conflict, known_refusal, coin_refusal, room_refusal, tx_refusal, overspends, full, has_coinbase_form, total_bytes}
-use Rattle.el_mempool.specs.Standing.{source_at, sources, kept_tx, StandsFor}
+use Rattle.el_mempool.specs.Refusals.{where_so, is_kept, missing, spender_of, conflict, known_refusal, coin_refusal, room_refusal, tx_refusal, overspends, over_limit, has_coinbase_form, total_bytes}
+use Rattle.el_mempool.specs.Standing.{source_at, sources, kept_tx, KeptStandFor}
 use Rattle.el_mempool.proofs.Sifting.{joins_of, stays_of, joins_more}
 use Rattle.el_mempool.proofs.Confirmed.{hash_self, hash_same, unconfirmed_none}
 use Rattle.el_mempool.proofs.Dropping.{output_apart}
@@ -80,7 +80,7 @@ is_free limits chain kept t h =
     let form = both_none (where_so (has_coinbase_form t) refusal.CoinbaseForm) (option_or (where_so (is_confirmed chain (txid t)) refusal.Confirmed) (where_so (is_kept (txid t) kept) refusal.Known)) first.0 in
     let known = both_none (where_so (is_confirmed chain (txid t)) refusal.Confirmed) (where_so (is_kept (txid t) kept) refusal.Known) form.1 in
     let coins = both_none (missing chain kept t.inputs) (conflict kept (txid t) t.inputs) second.0 in
-    let room = both_none (overspends (total_held (held_by chain kept t.inputs)) (total_value t.outputs)) (full limits (length kept) (total_bytes kept) (length (full_encoding t))) second.1 in
+    let room = both_none (overspends (total_held (held_by chain kept t.inputs)) (total_value t.outputs)) (over_limit limits (length kept) (total_bytes kept) (length (full_encoding t))) second.1 in
     let out = not_so (is_confirmed chain (txid t)) refusal.Confirmed known.0 in
     let fits = not_so (nat_lt (total_held (held_by chain kept t.inputs)) (total_value t.outputs)) (refusal.Overspends (total_held (held_by chain kept t.inputs)) (total_value t.outputs)) room.0 in
     record {
@@ -141,7 +141,7 @@ new_apart id (t ∷ ts) h =
     ((λ e. true≢false (sym (hash_self (txid t) id e) ∙ parts.0)), new_apart id ts parts.1)
 
 -- the kept ones stand for the chain with one more that may join and is new
-pub stands_with : (entries : List KeptTx) (chain : Chain) (kept : List Tx) (t : Tx) → StandsFor entries chain kept → IsFree chain kept t → StandsFor (entries ++ kept_tx chain kept t ∷ []) chain (kept ++ t ∷ [])
+pub stands_with : (entries : List KeptTx) (chain : Chain) (kept : List Tx) (t : Tx) → KeptStandFor entries chain kept → IsFree chain kept t → KeptStandFor (entries ++ kept_tx chain kept t ∷ []) chain (kept ++ t ∷ [])
 stands_with entries chain kept t h f = record {
   sifted = stays_of (may_join chain) (kept ++ t ∷ []) (joins_more (may_join chain) [] kept t (joins_of (may_join chain) kept h.sifted) f.joins);
   are = ap (λ l. l ++ kept_tx chain kept t ∷ []) h.are
@@ -152,8 +152,8 @@ stands_with entries chain kept t h f = record {
 }
 
 -- the kept ones stand for the chain with one more that nothing refuses
-pub stands_more : (limits : PoolLimits) (entries : List KeptTx) (chain : Chain) (kept : List Tx) (t : Tx) → StandsFor entries chain kept → tx_refusal limits chain kept t ≡ None
-    → StandsFor (entries ++ kept_tx chain kept t ∷ []) chain (kept ++ t ∷ [])
+pub stands_more : (limits : PoolLimits) (entries : List KeptTx) (chain : Chain) (kept : List Tx) (t : Tx) → KeptStandFor entries chain kept → tx_refusal limits chain kept t ≡ None
+    → KeptStandFor (entries ++ kept_tx chain kept t ∷ []) chain (kept ++ t ∷ [])
 stands_more limits entries chain kept t h free = stands_with entries chain kept t h (is_free limits chain kept t free)
 
 -- what may join, and is new, is free

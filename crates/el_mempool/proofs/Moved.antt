@@ -11,7 +11,7 @@ use Rattle.el_chain.specs.Headers.{same_hash}
 use Rattle.el_mempool.specs.Sift.{is_confirmed, may_join, sift}
 use Rattle.el_mempool.specs.Refusals.{is_kept}
 use Rattle.el_mempool.specs.declared.held.KeptTx.{KeptTx}
-use Rattle.el_mempool.specs.Standing.{AreOnce, StandsFor, AreChanged}
+use Rattle.el_mempool.specs.Standing.{HaveDifferentTxids, KeptStandFor, AreChanged}
 use Rattle.el_mempool.proofs.Sifting.{stay, folds, all_join, joins_of}
 use Rattle.el_mempool.proofs.Confirmed.{hash_same, hash_self}
 use Rattle.el_mempool.proofs.Dropping.{rest}
@@ -62,7 +62,7 @@ stayed_is p before (t ∷ ts) h = by (p before t) (stayed_is p (before ++ t ∷ 
         let absent = absent_in (txid t) p before ts h.0 in
         rw absent none
 
-pub sifted_is : (chain : Chain) (kept : List Tx) → AreOnce kept → sift chain kept ≡ rest (not_among (sift chain kept)) kept
+pub sifted_is : (chain : Chain) (kept : List Tx) → HaveDifferentTxids kept → sift chain kept ≡ rest (not_among (sift chain kept)) kept
 sifted_is chain kept once =
     subst (λ (l : List Tx). l ≡ rest (not_among l) kept) (sym (folds (may_join chain) [] kept)) (stayed_is (may_join chain) [] kept (apart_from kept once))
 
@@ -75,7 +75,7 @@ over_rest chain g (t ∷ ts) h = elim (cases_Bool (g (txid t))) [
 
 -- A move changes the script hashes at which what is seen of some transaction differs: of one that is kept no more, those that it
 -- concerned; of one that stays, those at which its entry is another now, as where its flag changed.
-pub move_changes : (before chain : Chain) (entries : List KeptTx) (kept : List Tx) (differs : Hash32 → Tx → Bool) (scripts : List Hash32) → StandsFor entries before kept
+pub move_changes : (before chain : Chain) (entries : List KeptTx) (kept : List Tx) (differs : Hash32 → Tx → Bool) (scripts : List Hash32) → KeptStandFor entries before kept
     → Tells before chain nothing (not_among (sift chain kept)) kept differs → AllDiffer scripts → ((s : Hash32) → list_any (same_hash s) scripts ≡ list_any (differs s) kept)
     → AreChanged before kept chain (sift chain kept) scripts
 move_changes before chain entries kept differs scripts h tells once are =

@@ -16,8 +16,8 @@ use Rattle.el_mempool.specs.declared.entry.PoolEntry.{PoolEntry}
 use Rattle.el_mempool.specs.declared.held.KeptTx.{KeptTx}
 use Rattle.el_mempool.specs.Sift.{is_confirmed, may_join, joined, sift}
 use Rattle.el_mempool.specs.Refusals.{is_kept}
-use Rattle.el_mempool.specs.Unconfirmed.{concerns, entry}
-use Rattle.el_mempool.specs.Standing.{kept_tx, is_at_script, StandsFor, AreChanged}
+use Rattle.el_mempool.specs.Unconfirmed.{concerns_script, entry}
+use Rattle.el_mempool.specs.Standing.{kept_tx, is_at_script, KeptStandFor, AreChanged}
 use Rattle.el_mempool.specs.Moving.{just_one, look_same, differs_at, step_differs, any_differs}
 use Rattle.el_mempool.proofs.Sifting.{stay, folds, all_join}
 use Rattle.el_mempool.proofs.Confirmed.{hash_self, hash_same}
@@ -183,14 +183,14 @@ not_not false = refl
 
 seen_old : (before : Chain) (all : List Tx) (s : Hash32) (t : Tx) → seen before nothing all s.0 t ≡ cond (is_at_script s.0 (kept_tx before all t)) (Some (entry before all t)) None
 seen_old before all s t =
-    ap (λ l. cond (concerns before l s.0 t) (Some (entry before l t)) None) (all_stay all)
+    ap (λ l. cond (concerns_script before l s.0 t) (Some (entry before l t)) None) (all_stay all)
     ∙ ap (λ b. cond b (Some (entry before all t)) None) (sym (entry_at before all s.0 t))
 
 seen_new : (chain : Chain) (all final : List Tx) (s : Hash32) (t : Tx) → rest (not_among final) all ≡ final
     → seen chain (not_among final) all s.0 t ≡ cond (is_kept (txid t) final) (cond (is_at_script s.0 (kept_tx chain final t)) (Some (entry chain final t)) None) None
 seen_new chain all final s t is =
-    ap (λ l. cond (not (not_among final (txid t))) (cond (concerns chain l s.0 t) (Some (entry chain l t)) None) None) is
-    ∙ ap (λ b. cond b (cond (concerns chain final s.0 t) (Some (entry chain final t)) None) None) (not_not (is_kept (txid t) final))
+    ap (λ l. cond (not (not_among final (txid t))) (cond (concerns_script chain l s.0 t) (Some (entry chain l t)) None) None) is
+    ∙ ap (λ b. cond b (cond (concerns_script chain final s.0 t) (Some (entry chain final t)) None) None) (not_not (is_kept (txid t) final))
     ∙ ap (λ b. cond (is_kept (txid t) final) (cond b (Some (entry chain final t)) None) None) (sym (entry_at chain final s.0 t))
 
 tells_final : (before chain : Chain) (all final : List Tx) (s : Hash32) (t : Tx) → rest (not_among final) all ≡ final
@@ -212,7 +212,7 @@ none_of_nothing [] = tt
 none_of_nothing (t ∷ ts) = (refl, none_of_nothing ts)
 
 -- the script hashes of which some step tells are those that change
-pub sift_changes : (before chain : Chain) (entries : List KeptTx) (kept : List Tx) (scripts : List Hash32) → StandsFor entries before kept → AllDiffer scripts
+pub sift_changes : (before chain : Chain) (entries : List KeptTx) (kept : List Tx) (scripts : List Hash32) → KeptStandFor entries before kept → AllDiffer scripts
     → ((s : Hash32) → list_any (same_hash s) scripts ≡ any_differs before kept chain [] s kept) → AreChanged before kept chain (sift chain kept) scripts
 sift_changes before chain entries kept scripts h once are =
     let whole = folds (may_join chain) [] kept in

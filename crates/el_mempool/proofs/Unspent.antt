@@ -24,7 +24,7 @@ use Rattle.el_chain.specs.History.{funds}
 use Rattle.el_chain.proofs.CoinLists.{same_gives}
 use Rattle.el_mempool.specs.declared.held.Held.{Held}
 use Rattle.el_mempool.specs.Sift.{coin_named, output_held, output_of, output_among, named, any_takes, is_taken, held_by, is_confirmed}
-use Rattle.el_mempool.specs.Unconfirmed.{shown_cmp, by_shown, has_script, concerns, entry, made, pool_unspent}
+use Rattle.el_mempool.specs.Unconfirmed.{shown_cmp, by_shown, has_script, concerns_script, entry, made, pool_unspent}
 use Rattle.el_mempool.proofs.Confirmed.{hash_self, hash_same, unconfirmed_none}
 use Rattle.el_mempool.proofs.Dropping.{rest, output_apart, among_rest}
 use Rattle.el_mempool.proofs.Ordered.{all_in_order, filter_in_order}
@@ -103,10 +103,10 @@ taken_after one two g h all s o v (u ∷ us) is own same taken = by (taken_after
   where
     never : g (txid u) ≡ false → any_takes o u.inputs ≡ true → not (h (txid u)) ≡ true
     never stays here =
-        let own_here : concerns one (rest g all) s u ≡ true = or_right (funds s u) (list_any (has_script s) (held_by one (rest g all) u.inputs)) (takes_held one (rest g all) o v s u.inputs here is own) in
-        let now = both_some (λ (t : Tx). not (g (txid t))) (concerns one (rest g all) s) (entry one (rest g all)) u (not_from_false (g (txid u)) stays) own_here in
+        let own_here : concerns_script one (rest g all) s u ≡ true = or_right (funds s u) (list_any (has_script s) (held_by one (rest g all) u.inputs)) (takes_held one (rest g all) o v s u.inputs here is own) in
+        let now = both_some (λ (t : Tx). not (g (txid t))) (concerns_script one (rest g all) s) (entry one (rest g all)) u (not_from_false (g (txid u)) stays) own_here in
         let later : seen two h all s u ≡ Some (entry one (rest g all) u) = sym same.0 ∙ now in
-        (some_both (λ (t : Tx). not (h (txid t))) (concerns two (rest h all) s) (entry two (rest h all)) u (entry one (rest g all) u) later).0
+        (some_both (λ (t : Tx). not (h (txid t))) (concerns_script two (rest h all) s) (entry two (rest h all)) u (entry one (rest g all) u) later).0
 
     said : g (txid u) ≡ false → (any_takes o u.inputs ≡ true) ⊎ (is_taken o (rest g us) ≡ true)
     said stays = let now = rw stays at taken in or_cases (any_takes o u.inputs) (is_taken o (rest g us)) now
@@ -209,12 +209,12 @@ AreOver chain gone all = AllByRecursion (λ (t : Tx). gone (txid t) ≡ false �
 
 -- what is seen of it says that it is gone, or that no output has the script hash
 unseen_funds : (chain : Chain) (gone : Hash32 → Bool) (all : List Tx) (s : List ℕ) (t : Tx) → gone (txid t) ≡ false → seen chain gone all s t ≡ None → funds s t ≡ false
-unseen_funds chain gone all s t stays none = by (concerns chain (rest gone all) s t) refl
+unseen_funds chain gone all s t stays none = by (concerns_script chain (rest gone all) s t) refl
   where
-    by : (b : Bool) → concerns chain (rest gone all) s t ≡ b → funds s t ≡ false
+    by : (b : Bool) → concerns_script chain (rest gone all) s t ≡ b → funds s t ≡ false
     by false e = (or_parts (funds s t) (list_any (has_script s) (held_by chain (rest gone all) t.inputs)) e).0
     by true e =
-        let is = both_some (λ (u : Tx). not (gone (txid u))) (concerns chain (rest gone all) s) (entry chain (rest gone all)) t (not_from_false (gone (txid t)) stays) e in
+        let is = both_some (λ (u : Tx). not (gone (txid u))) (concerns_script chain (rest gone all) s) (entry chain (rest gone all)) t (not_from_false (gone (txid t)) stays) e in
         let bad : Some (entry chain (rest gone all) t) ≡ None = sym is ∙ none in absurd (cc)
 
 gone_unseen : (chain : Chain) (gone : Hash32 → Bool) (all : List Tx) (s : List ℕ) (t : Tx) → gone (txid t) ≡ true → seen chain gone all s t ≡ None

@@ -8,7 +8,7 @@ use Rattle.el_chain.specs.Chains.{Chain}
 use Rattle.el_mempool.specs.declared.entry.PoolLimits.{PoolLimits}
 use Rattle.el_mempool.specs.declared.held.KeptTx.{KeptTx}
 use Rattle.el_mempool.specs.Refusals.{tx_refusal}
-use Rattle.el_mempool.specs.Standing.{StandsFor, AreChanged}
+use Rattle.el_mempool.specs.Standing.{KeptStandFor, AreChanged}
 
 -- The bytes encode a transaction that no refusal keeps out, with that txid; the set then stands for the kept
 -- ones with it at their end, and these are the script hashes that changed.
@@ -18,5 +18,5 @@ pub record Joined (limits : PoolLimits) (chain : Chain) (kept : List Tx) (bytes 
   pub encoded : Encodes bytes tx
   pub free : tx_refusal limits chain kept tx ≡ None
   pub is_id : id ≡ txid tx
-  pub stands : StandsFor entries chain (kept ++ tx ∷ [])
+  pub stands : KeptStandFor entries chain (kept ++ tx ∷ [])
   pub changed : AreChanged chain kept chain (kept ++ tx ∷ []) scripts

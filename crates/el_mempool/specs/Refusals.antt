@@ -58,8 +58,8 @@ abbrev pub total_bytes : List Tx → ℕ
 total_bytes kept = sum_by (λ (t : Tx). length (full_encoding t)) kept
 
 -- so much is kept now, and with one more of that size a limit would be passed
-abbrev pub full : PoolLimits → ℕ → ℕ → ℕ → Option PoolFault
-full limits count bytes size =
+abbrev pub over_limit : PoolLimits → ℕ → ℕ → ℕ → Option PoolFault
+over_limit limits count bytes size =
     where_so (nat_lt limits.count (count + 1) || nat_lt limits.bytes (bytes + size))
     (refusal.Full count bytes)
 
@@ -78,7 +78,7 @@ coin_refusal chain kept t = option_or (missing chain kept t.inputs) (conflict ke
 abbrev pub room_refusal : PoolLimits → Chain → List Tx → Tx → Option PoolFault
 room_refusal limits chain kept t =
     option_or (overspends (total_held (held_by chain kept t.inputs)) (total_value t.outputs))
-    (full limits (length kept) (total_bytes kept) (length (full_encoding t)))
+    (over_limit limits (length kept) (total_bytes kept) (length (full_encoding t)))
 
 -- the first refusal of a transaction after the kept ones
 abbrev pub tx_refusal : PoolLimits → Chain → List Tx → Tx → Option PoolFault
@@ -88,7 +88,7 @@ tx_refusal limits chain kept t =
 
 -- The bytes do not join the kept ones, and this is the first refusal: they are not one whole transaction, or
 -- that transaction's first.
-abbrev pub IsRefused : PoolLimits → Chain → List Tx → List ℕ → PoolFault → Type 0
-IsRefused limits chain kept bytes e =
+abbrev pub IsTxRefused : PoolLimits → Chain → List Tx → List ℕ → PoolFault → Type 0
+IsTxRefused limits chain kept bytes e =
     ((e ≡ refusal.Bad) × ((t : Tx) → Encodes bytes t → ⊥))
     ⊎ ((t : Tx) × Encodes bytes t × (tx_refusal limits chain kept t ≡ Some e))

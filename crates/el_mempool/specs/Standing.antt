@@ -39,15 +39,15 @@ kept_tx chain kept t = record {
 }
 
 -- no txid stands twice
-abbrev pub AreOnce : List Tx → Type 0
-AreOnce kept = AllDiffer (map txid kept)
+abbrev pub HaveDifferentTxids : List Tx → Type 0
+HaveDifferentTxids kept = AllDiffer (map txid kept)
 
 -- What is kept stands for these transactions over the chain: the sift keeps them all, beside each input
 -- stands what its coin holds, and no txid stands twice.
-pub record StandsFor (entries : List KeptTx) (chain : Chain) (kept : List Tx) : Type 0 where
+pub record KeptStandFor (entries : List KeptTx) (chain : Chain) (kept : List Tx) : Type 0 where
   pub sifted : sift chain kept ≡ kept
   pub are : entries ≡ map (kept_tx chain kept) kept
-  pub once : AreOnce kept
+  pub once : HaveDifferentTxids kept
 
 -- The listed script hashes, each once, are those whose history or unspent outputs among the kept ones differ
 -- between these over the one chain and those over the other.

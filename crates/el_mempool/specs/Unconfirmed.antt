@@ -35,8 +35,8 @@ abbrev pub has_script : List ℕ → Held → Bool
 has_script script_hash h = bytes_eq h.script.0 script_hash
 
 -- the transaction has an output with the script hash, or takes a coin with it
-abbrev pub concerns : Chain → List Tx → List ℕ → Tx → Bool
-concerns chain kept script_hash t =
+abbrev pub concerns_script : Chain → List Tx → List ℕ → Tx → Bool
+concerns_script chain kept script_hash t =
     funds script_hash t || list_any (has_script script_hash) (held_by chain kept t.inputs)
 
 -- an element is put before the first of a list in that order which isn't less
@@ -64,7 +64,7 @@ entry chain kept t = record { txid = txid t; flag = flag kept t; fee = fee chain
 -- the kept ones that fund or spend the script hash, by their shown txids
 abbrev pub pool_history : Chain → List Tx → List ℕ → List PoolEntry
 pool_history chain kept script_hash =
-    map (entry chain kept) (filter (concerns chain kept script_hash) (by_shown kept))
+    map (entry chain kept) (filter (concerns_script chain kept script_hash) (by_shown kept))
 
 -- the coins that the outputs of an unconfirmed transaction are, with height 0
 abbrev pub made : Tx → List Coin

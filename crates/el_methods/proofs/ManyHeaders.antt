@@ -10,7 +10,7 @@ use Rattle.el_chain.specs.Chains.{Chain}
 use Rattle.el_chain.specs.declared.placed.Placed.{Placed}
 use Rattle.el_model.specs.Queries.{header_at, height_of}
 use Rattle.el_methods.specs.Results.{header_count, headers_bytes, headers_value, some_headers, block_headers}
-use Rattle.el_methods.specs.within.Tops.{blocks_of}
+use Rattle.el_methods.specs.within.Tops.{block_count}
 use Rattle.el_methods.specs.declared.blocks.TheConstants.{HEADER_LIMIT}
 
 abbrev bytes_of : Placed → List ℕ
@@ -41,12 +41,12 @@ headers_more chain start n header is =
     ap (λ bytes. headers_bytes chain start n ++ bytes) (sym at.2) ∙ next_header chain start n at.0 at.1
 
 -- how many blocks there are
-pub blocks_are : (chain : Chain) (top : Option ℕ) → top ≡ height_of chain → blocks_of top ≡ length chain
-blocks_are [] top is = ap blocks_of is
-blocks_are (b ∷ bs) top is = ap blocks_of is ∙ omega arith
+pub blocks_are : (chain : Chain) (top : Option ℕ) → top ≡ height_of chain → block_count top ≡ length chain
+blocks_are [] top is = ap block_count is
+blocks_are (b ∷ bs) top is = ap block_count is ∙ omega arith
 
 pub count_is : (chain : Chain) (top : Option ℕ) (start count n : ℕ) → top ≡ height_of chain
-    → n ≡ min count (min HEADER_LIMIT (blocks_of top - start)) → n ≡ header_count chain start count
+    → n ≡ min count (min HEADER_LIMIT (block_count top - start)) → n ≡ header_count chain start count
 count_is chain top start count n is so =
     so ∙ ap (λ blocks. min count (min HEADER_LIMIT (blocks - start))) (blocks_are chain top is)
 

@@ -17,7 +17,7 @@ use Rattle.el_chain.specs.declared.coin.Coin.{Coin}
 use Rattle.el_chain.specs.declared.node.Spot.{Spot}
 use Rattle.el_files.specs.Reading.{text_at, IsTxOf}
 use Rattle.el_model.specs.Queries.{newest, place_at, spot_of, find_tx}
-use Rattle.el_methods.specs.Archives.{HasBlocks, HasTransaction, HasChanged}
+use Rattle.el_methods.specs.Archives.{HasBlocks, HasTransaction, IsDifferentTx}
 use Rattle.el_methods.specs.Outcomes.{IsAnswer}
 use Rattle.el_methods.specs.Results.{hex, transaction_get}
 use Rattle.el_calls.specs.declared.refusal.Refusal.{Refusal}
@@ -67,14 +67,14 @@ found chain s (Some p) e = let at = placed p s (place_at chain p.height) e in (p
 stands_whole : (files : ℕ → List ℕ) (chain : Chain) (id : Hash32) (s : Spot) (p : Position) (place : Place)
     → newest id (positions chain) ≡ Some p → spot_of p place ≡ s
     → text_at (spot_of p place) (files place.file) ≡ full_encoding p.tx → HasEncoding p.tx
-    → HasChanged s id (files s.place.file) → ⊥
+    → IsDifferentTx s id (files s.place.file) → ⊥
 stands_whole files chain id s p place new at stands has changed =
     let whole = is_tx id p place _ stands has (has_txid id (positions chain) p new) in
     let P : Spot → Type 0 = λ q. IsTxOf q.len id (text_at q (files q.place.file)) in
     changed.1.other (subst P at whole)
 
 pub unchanged : (files : ℕ → List ℕ) (chain : Chain) (id : Hash32) (s : Spot) → HasBlocks files chain
-    → find_tx chain id ≡ Some s → HasChanged s id (files s.place.file) → ⊥
+    → find_tx chain id ≡ Some s → IsDifferentTx s id (files s.place.file) → ⊥
 unchanged files chain id s has is changed =
     let at = found chain s (newest id (positions chain)) is in
     let stands = newest_stands files chain id at.0 at.2 has at.1 at.3 in
@@ -95,7 +95,7 @@ encoded_from id before height (b ∷ bs) coins next p e =
 
 -- also where the block files have that transaction of a good chain
 of_transaction : (files : ℕ → List ℕ) (chain : Chain) (id : Hash32) (s : Spot) → IsGood chain
-    → HasTransaction files chain id → find_tx chain id ≡ Some s → HasChanged s id (files s.place.file) → ⊥
+    → HasTransaction files chain id → find_tx chain id ≡ Some s → IsDifferentTx s id (files s.place.file) → ⊥
 of_transaction files chain id s good has is changed =
     let at = found chain s (newest id (positions chain)) is in
     stands_whole files chain id s at.0 at.2 at.1 at.4 (has at.0 at.2 at.1 at.3)
@@ -104,7 +104,7 @@ of_transaction files chain id s good has is changed =
 -- so that they have changed is not told then
 pub not_told : (files : ℕ → List ℕ) (chain : Chain) (id : Hash32) (s : Spot) → IsGood chain
     → HasTransaction files chain id → find_tx chain id ≡ Some s → (given : Result Data Stop)
-    → IfErr given (λ e. e ≡ stop.Changed → HasChanged s id (files s.place.file)) → given ≢ Err stop.Changed
+    → IfErr given (λ e. e ≡ stop.Changed → IsDifferentTx s id (files s.place.file)) → given ≢ Err stop.Changed
 not_told files chain id s good has is (Ok answer) told same = absurd (cc)
 not_told files chain id s good has is (Err e) told same =
     of_transaction files chain id s good has is (told (let h : Err e ≡ Err stop.Changed = same in cc))

@@ -27,9 +27,9 @@ use Rattle.el_calls.specs.declared.call.Call.TheVariants as call
 use Rattle.el_calls.specs.declared.refusal.Refusal.{Refusal}
 
 -- the answer, after which this is kept
-abbrev pub with_session : Session → Result Data Refusal → Result (Data × Session) Refusal
-with_session s (Ok answer) = Ok (answer, s)
-with_session s (Err r) = Err r
+abbrev pub answer_with_session : Session → Result Data Refusal → Result (Data × Session) Refusal
+answer_with_session s (Ok answer) = Ok (answer, s)
+answer_with_session s (Err r) = Err r
 
 -- it is told new tips, or isn't
 abbrev pub with_headers : Session → Result (Data × Bool) Refusal → Result (Data × Session) Refusal
@@ -62,14 +62,14 @@ replied chain kept found s (call.ServerVersion least most) = agreed s s.version 
 replied chain kept found s call.ServerBanner =
     Ok (string (codes "Electrum Protocol 1.4 server over block files"), s)
 replied chain kept found s call.ServerDonationAddress = Ok (string [], s)
-replied chain kept found s call.ServerFeatures = with_session s (result.features found)
+replied chain kept found s call.ServerFeatures = answer_with_session s (result.features found)
 replied chain kept found s call.ServerPing = Ok (null, s)
 replied chain kept found s call.ServerPeersSubscribe = Ok (array no_items, s)
 replied chain kept found s call.ServerAddPeer = Ok (boolean false, s)
 replied chain kept found s (call.BlockHeader height cp_height) =
-    with_session s (result.block_header chain height cp_height)
+    answer_with_session s (result.block_header chain height cp_height)
 replied chain kept found s (call.BlockHeaders start count cp_height) =
-    with_session s (result.block_headers chain start count cp_height)
+    answer_with_session s (result.block_headers chain start count cp_height)
 replied chain kept found s call.EstimateFee = Ok (number (of_integer (negsuc 0)), s)
 replied chain kept found s call.RelayFee = Ok (whole 0, s)
 replied chain kept found s call.HeadersSubscribe =
@@ -77,21 +77,22 @@ replied chain kept found s call.HeadersSubscribe =
 replied chain kept found s (call.GetBalance script_hash) =
     Ok (balance_value (balance chain kept script_hash.0), s)
 replied chain kept found s (call.GetHistory script_hash) =
-    with_session s (result.get_history chain kept script_hash.0)
+    answer_with_session s (result.get_history chain kept script_hash.0)
 replied chain kept found s (call.GetMempool script_hash) =
-    with_session s (result.get_mempool chain kept script_hash.0)
+    answer_with_session s (result.get_mempool chain kept script_hash.0)
 replied chain kept found s (call.ListUnspent script_hash) =
-    with_session s (result.list_unspent chain kept script_hash.0)
+    answer_with_session s (result.list_unspent chain kept script_hash.0)
 replied chain kept found s (call.ScriptHashSubscribe script_hash) =
     with_subscriptions s (result.script_hash_subscribe chain kept s.subs script_hash)
 replied chain kept found s (call.ScriptHashUnsubscribe script_hash) =
     Ok (boolean (is_subscribed script_hash s.subs), record s { subs = unsubscribed script_hash s.subs })
 replied chain kept found s (call.Broadcast bytes) = Err refusal.NoRelay
 replied chain kept found s (call.TransactionGet id verbose) =
-    with_session s (result.transaction_get chain kept id verbose)
-replied chain kept found s (call.GetMerkle id height) = with_session s (result.get_merkle chain id height)
+    answer_with_session s (result.transaction_get chain kept id verbose)
+replied chain kept found s (call.GetMerkle id height) = answer_with_session s
+    (result.get_merkle chain id height)
 replied chain kept found s (call.IdFromPos height pos merkle) =
-    with_session s (result.id_from_pos chain height pos merkle)
+    answer_with_session s (result.id_from_pos chain height pos merkle)
 replied chain kept found s call.FeeHistogram = Ok (result.fee_histogram chain kept, s)
 
 -- the answer is read from the chain or from the unconfirmed set

@@ -236,8 +236,8 @@ id_from_pos chain height pos merkle = do
 -- 7. blockchain.scripthash.get_balance, get_history, get_mempool and listunspent
 
 -- a list of these values, which may not be too long
-abbrev pub listed : List Data → Result Data Refusal
-listed values =
+abbrev pub list_within_limit : List Data → Result Data Refusal
+list_within_limit values =
     if nat_lt ENTRY_LIMIT (length values) then Err refusal.HistoryTooLarge else Ok (array (items_of values))
 
 -- the sum of the confirmed coins, and by how much the unconfirmed transactions change it
@@ -269,15 +269,15 @@ both_values confirmed unconfirmed = map entry_value confirmed ++ map pool_value 
 -- the confirmed history, and then the unconfirmed one
 abbrev pub get_history : Chain → List Tx → List ℕ → Result Data Refusal
 get_history chain kept script_hash =
-    listed (both_values (history chain script_hash) (pool_history chain kept script_hash))
+    list_within_limit (both_values (history chain script_hash) (pool_history chain kept script_hash))
 
 -- the unconfirmed history alone
 abbrev pub get_mempool : Chain → List Tx → List ℕ → Result Data Refusal
-get_mempool chain kept script_hash = listed (map pool_value (pool_history chain kept script_hash))
+get_mempool chain kept script_hash = list_within_limit (map pool_value (pool_history chain kept script_hash))
 
 -- the coins, with the unconfirmed ones and without those that unconfirmed transactions take
 abbrev pub list_unspent : Chain → List Tx → List ℕ → Result Data Refusal
-list_unspent chain kept script_hash = listed (map coin_value (unspent chain kept script_hash))
+list_unspent chain kept script_hash = list_within_limit (map coin_value (unspent chain kept script_hash))
 
 -- 8. blockchain.scripthash.subscribe
 

@@ -20,16 +20,16 @@ ids_rows None = 0
 ids_rows (Some ids) = 1 + length ids
 
 -- `buckets` is the number of buckets of the index. A call that isn't named reads none.
-abbrev pub rows_of : Chain → ℕ → Call → ℕ
-rows_of chain buckets (call.BlockHeader height cp_height) = 1 + proof_rows cp_height
-rows_of chain buckets (call.BlockHeaders start count cp_height) =
+abbrev pub rows_read_by : Chain → ℕ → Call → ℕ
+rows_read_by chain buckets (call.BlockHeader height cp_height) = 1 + proof_rows cp_height
+rows_read_by chain buckets (call.BlockHeaders start count cp_height) =
     header_count chain start count + proof_rows cp_height
-rows_of chain buckets call.HeadersSubscribe = 1
-rows_of chain buckets (call.GetBalance script_hash) = script_rows chain buckets script_hash.0
-rows_of chain buckets (call.GetHistory script_hash) = history_rows chain buckets script_hash.0
-rows_of chain buckets (call.ScriptHashSubscribe script_hash) = history_rows chain buckets script_hash.0
-rows_of chain buckets (call.ListUnspent script_hash) = unspent_rows chain buckets script_hash.0
-rows_of chain buckets (call.TransactionGet id verbose) = 2 + txs_in_bucket chain buckets id.0
-rows_of chain buckets (call.GetMerkle id height) = ids_rows (txids_at chain height)
-rows_of chain buckets (call.IdFromPos height pos merkle) = ids_rows (txids_at chain height)
-rows_of chain buckets c = 0
+rows_read_by chain buckets call.HeadersSubscribe = 1
+rows_read_by chain buckets (call.GetBalance script_hash) = script_rows chain buckets script_hash.0
+rows_read_by chain buckets (call.GetHistory script_hash) = history_rows chain buckets script_hash.0
+rows_read_by chain buckets (call.ScriptHashSubscribe script_hash) = history_rows chain buckets script_hash.0
+rows_read_by chain buckets (call.ListUnspent script_hash) = unspent_rows chain buckets script_hash.0
+rows_read_by chain buckets (call.TransactionGet id verbose) = 2 + txs_in_bucket chain buckets id.0
+rows_read_by chain buckets (call.GetMerkle id height) = ids_rows (txids_at chain height)
+rows_read_by chain buckets (call.IdFromPos height pos merkle) = ids_rows (txids_at chain height)
+rows_read_by chain buckets c = 0

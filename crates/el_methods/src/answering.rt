@@ -4,12 +4,12 @@ ghost use Rattle.el_outside.specs.Counts.{RoseBy};
 ghost use Rattle.el_outside.specs.Files.{AllGrow};
 ghost use Rattle.el_tx.specs.declared.types.Tx as shape;
 ghost use Rattle.el_chain.specs.Chains.{Chain};
-ghost use Rattle.el_mempool.specs.Standing.{StandsFor};
+ghost use Rattle.el_mempool.specs.Standing.{KeptStandFor};
 ghost use Rattle.el_fees.specs.Tables.{IsTableOf};
 ghost use Rattle.el_model.specs.LedgerCalls.{Asked};
 ghost use Rattle.el_side.specs.Caching.{CachesStand, CachesStay};
 ghost use Rattle.el_methods.specs.Archives.{HasAsked};
-ghost use Rattle.el_methods.specs.RowBounds.{rows_of};
+ghost use Rattle.el_methods.specs.RowBounds.{rows_read_by};
 ghost use Rattle.el_methods.specs.Outcomes.{IsReplyWith, IsCounted, IsDiskCounted, RefusesOnly, TellsNoFiles, IsPrintableAnswer};
 ghost use Rattle.el_methods.specs.Replied.{replied, reads_chain, reads_files, may_read_files, MayRefuse, GivesOwn, agreed};
 ghost use Rattle.el_calls.specs.Versions.{text_of};
@@ -96,26 +96,30 @@ pub fn answer<G: Ledger, A: Archive>(
 
     // Where the block files have the chain's transaction that is asked for at its place.
     ensures answer { (chain : Chain) (kept : List shape.Tx) → G.stands ledger.old chain
-        → StandsFor holdings.now.pool.entries chain kept
+        → KeptStandFor holdings.now.pool.entries chain kept
         → IsTableOf holdings.now.fees holdings.now.pool.entries → CachesStand caches.old chain chain → A.tells
         → HasAsked (A.bytes archive.new) chain call.now
-        → IsReplyWith (replied chain kept holdings.now.tree session.old call.now) session.old session.new result }
+        → IsReplyWith (replied chain kept holdings.now.tree session.old call.now) session.old session.new
+        result }
     // Whatever the block files are, unless the call reads them.
     ensures of_index { (chain : Chain) (kept : List shape.Tx) → G.stands ledger.old chain
-        → StandsFor holdings.now.pool.entries chain kept
+        → KeptStandFor holdings.now.pool.entries chain kept
         → IsTableOf holdings.now.fees holdings.now.pool.entries → CachesStand caches.old chain chain
         → reads_files kept call.now ≡ false
-        → IsReplyWith (replied chain kept holdings.now.tree session.old call.now) session.old session.new result }
+        → IsReplyWith (replied chain kept holdings.now.tree session.old call.now) session.old session.new
+        result }
     // Never another transaction, nor that the chain has none where it has one, whatever the block files hold.
     ensures own { (chain : Chain) (kept : List shape.Tx) → G.stands ledger.old chain
-        → StandsFor holdings.now.pool.entries chain kept → reads_files kept call.now ≡ true
+        → KeptStandFor holdings.now.pool.entries chain kept → reads_files kept call.now ≡ true
         → GivesOwn chain call.now result }
     // That the block files failed or have changed is told only where the call reads them.
-    ensures untold { (chain : Chain) (kept : List shape.Tx) → StandsFor holdings.now.pool.entries chain kept
+    ensures untold { (chain : Chain) (kept : List shape.Tx)
+        → KeptStandFor holdings.now.pool.entries chain kept
         → reads_files kept call.now ≡ false → TellsNoFiles result }
     // Whatever the ledger and the unconfirmed set stand for.
     ensures of_server { (chain : Chain) (kept : List shape.Tx) → reads_chain call.now ≡ false
-        → IsReplyWith (replied chain kept holdings.now.tree session.old call.now) session.old session.new result }
+        → IsReplyWith (replied chain kept holdings.now.tree session.old call.now) session.old session.new
+        result }
     ensures alone { may_read_files call.now ≡ false → TellsNoFiles result }
     ensures printable { IsPrintableAnswer result }
 
@@ -133,7 +137,7 @@ pub fn answer<G: Ledger, A: Archive>(
         → HasAsked (A.bytes archive.new) chain call.now → result ≢ Err stop.Changed }
     ensures refusals { reads_chain call.now ≡ true → RefusesOnly (MayRefuse session.old call.now) result }
     ensures rows { (chain : Chain) → G.stands ledger.old chain → CachesStand caches.old chain chain
-        → G.reads ledger.new ≤ G.reads ledger.old + rows_of chain (G.buckets ledger.old) call.now }
+        → G.reads ledger.new ≤ G.reads ledger.old + rows_read_by chain (G.buckets ledger.old) call.now }
     ensures counted { IsCounted (λ n. RoseBy (G.faults ledger.old) (G.faults ledger.new) n)
         (λ n. RoseBy (A.faults archive.old) (A.faults archive.new) n) result }
 {

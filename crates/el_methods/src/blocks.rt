@@ -11,7 +11,7 @@ ghost use Rattle.el_levels.specs.declared.groups.TheConstants.{GROUP};
 ghost use Rattle.el_side.specs.Caching.{CachesStand, CachesStay};
 ghost use Rattle.el_model.specs.Queries.{hashes_to};
 ghost use Rattle.el_methods.specs.Results.{told_tip};
-ghost use Rattle.el_methods.specs.within.Tops.{blocks_of};
+ghost use Rattle.el_methods.specs.within.Tops.{block_count};
 ghost use Rattle.el_calls.specs.declared.refusal.Refusal as shape;
 ghost use Rattle.el_calls.specs.declared.refusal.Refusal.TheVariants as refusal;
 ghost use Rattle.el_methods.specs.declared.stop.Stop.TheVariants as stop;
@@ -30,7 +30,7 @@ pub const HEADER_LIMIT: u64 = 2016;
 
 // How many headers are returned.
 fn header_count(top: Option<u32>, start: u64, count: u64) -> u32
-    ensures { result ≡ min count (min HEADER_LIMIT (blocks_of top - start)) }
+    ensures { result ≡ min count (min HEADER_LIMIT (block_count top - start)) }
 {
     let blocks = match top {
         Some(top) => u64::from(top) + 1,
@@ -51,7 +51,7 @@ fn header_count(top: Option<u32>, start: u64, count: u64) -> u32
 
 // Whether the checkpoint is above the tip, or below the last of so many headers.
 fn is_bad(top: Option<u32>, start: u64, count: u32, cp_height: u64) -> bool
-    ensures { result ≡ (nat_le (blocks_of top) cp_height
+    ensures { result ≡ (nat_le (block_count top) cp_height
         || (nat_lt 0 count && nat_lt (cp_height + 1) (start + count))) }
 {
     let blocks = match top {

@@ -5,7 +5,7 @@ ghost use Rattle.serde_json.specs.View.{items_of};
 ghost use Rattle.el_tx.specs.declared.types.Tx as shape;
 ghost use Rattle.el_chain.specs.Chains.{Chain};
 ghost use Rattle.el_mempool.specs.declared.held.KeptTx as kept_shape;
-ghost use Rattle.el_mempool.specs.Standing.{StandsFor};
+ghost use Rattle.el_mempool.specs.Standing.{KeptStandFor};
 ghost use Rattle.el_fees.specs.Tables.{IsTableOf};
 ghost use Rattle.el_methods.specs.Results as defined;
 ghost use Rattle.el_methods.specs.Outcomes.{IsAnswer, IsDiskCounted, RefusesOnly, IsPrintableAnswer};
@@ -42,7 +42,7 @@ fn edges_value(alloc: Global, rows: &[(u64, u64)]) -> Result<Answer, OutOfMemory
 /// is asked, and not the set.
 pub fn get_fee_histogram(alloc: Global, fees: &FeeTable) -> Result<Answer, Stop>
     ensures answer { (entries : List kept_shape.KeptTx) (chain : Chain) (kept : List shape.Tx)
-        → IsTableOf fees.now entries → StandsFor entries chain kept
+        → IsTableOf fees.now entries → KeptStandFor entries chain kept
         → IsAnswer (Ok (defined.fee_histogram chain kept)) result }
     ensures printable { IsPrintableAnswer result }
 

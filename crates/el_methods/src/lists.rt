@@ -5,7 +5,7 @@ ghost use Rattle.serde_json.specs.View.{items_of};
 ghost use Rattle.el_outside.specs.Counts.{RoseBy};
 ghost use Rattle.el_tx.specs.declared.types.Tx as shape;
 ghost use Rattle.el_chain.specs.Chains.{Chain};
-ghost use Rattle.el_mempool.specs.Standing.{StandsFor};
+ghost use Rattle.el_mempool.specs.Standing.{KeptStandFor};
 ghost use Rattle.el_model.specs.LedgerCalls.{Asked};
 ghost use Rattle.el_view.specs.Views as view;
 ghost use Rattle.el_methods.specs.Results as defined;
@@ -48,7 +48,7 @@ pub fn get_balance<G: Ledger>(
     requires live { G.is_live ledger.old }
 
     ensures answer { (chain : Chain) (kept : List shape.Tx) → G.stands ledger.old chain
-        → StandsFor pool.now.entries chain kept
+        → KeptStandFor pool.now.entries chain kept
         → IsAnswer (Ok (defined.balance_value (view.balance chain kept s.now.0))) result }
     ensures printable { IsPrintableAnswer result }
     ensures rows { (chain : Chain) → G.stands ledger.old chain
@@ -145,7 +145,7 @@ pub fn get_history<G: Ledger>(
     requires live { G.is_live ledger.old }
 
     ensures answer { (chain : Chain) (kept : List shape.Tx) → G.stands ledger.old chain
-        → StandsFor pool.now.entries chain kept
+        → KeptStandFor pool.now.entries chain kept
         → IsAnswer (defined.get_history chain kept s.now.0) result }
     ensures printable { IsPrintableAnswer result }
     ensures rows { (chain : Chain) → G.stands ledger.old chain
@@ -180,7 +180,7 @@ fn pool_entries_value(alloc: Global, entries: &[PoolEntry]) -> Result<Answer, Ou
 /// The answer to `blockchain.scripthash.get_mempool` (Electrum Protocol 1.4): the kept transactions that
 /// concern the script hash, if they are no more than `ENTRY_LIMIT`.
 pub fn get_mempool(alloc: Global, pool: &Pool, s: &Hash32) -> Result<Answer, Stop>
-    ensures answer { (chain : Chain) (kept : List shape.Tx) → StandsFor pool.now.entries chain kept
+    ensures answer { (chain : Chain) (kept : List shape.Tx) → KeptStandFor pool.now.entries chain kept
         → IsAnswer (defined.get_mempool chain kept s.now.0) result }
     ensures printable { IsPrintableAnswer result }
 
@@ -233,7 +233,7 @@ pub fn list_unspent<G: Ledger>(
     requires live { G.is_live ledger.old }
 
     ensures answer { (chain : Chain) (kept : List shape.Tx) → G.stands ledger.old chain
-        → StandsFor pool.now.entries chain kept
+        → KeptStandFor pool.now.entries chain kept
         → IsAnswer (defined.list_unspent chain kept s.now.0) result }
     ensures printable { IsPrintableAnswer result }
     ensures rows { (chain : Chain) → G.stands ledger.old chain

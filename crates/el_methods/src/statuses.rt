@@ -3,7 +3,7 @@ ghost use Rattle.std.specs.Prelude.{◌≡◌, ◌+◌, ◌≤◌, true, List, I
 ghost use Rattle.el_outside.specs.Counts.{RoseBy};
 ghost use Rattle.el_tx.specs.declared.types.Tx as shape;
 ghost use Rattle.el_chain.specs.Chains.{Chain};
-ghost use Rattle.el_mempool.specs.Standing.{StandsFor};
+ghost use Rattle.el_mempool.specs.Standing.{KeptStandFor};
 ghost use Rattle.el_model.specs.LedgerCalls.{Asked};
 ghost use Rattle.el_methods.specs.Results as defined;
 ghost use Rattle.el_methods.specs.Results.{told, is_one_too_many};
@@ -49,7 +49,7 @@ pub fn script_hash_subscribe<G: Ledger>(
     requires live { G.is_live ledger.old }
 
     ensures answer { (chain : Chain) (kept : List shape.Tx) → G.stands ledger.old chain
-        → StandsFor pool.now.entries chain kept
+        → KeptStandFor pool.now.entries chain kept
         → IsReplyWith (defined.script_hash_subscribe chain kept subs.old s) subs.old subs.new result }
     ensures printable { IsPrintableAnswer result }
 

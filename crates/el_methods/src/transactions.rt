@@ -11,9 +11,9 @@ ghost use Rattle.el_model.specs.Queries.{find_tx, txs_in_bucket};
 ghost use Rattle.el_methods.specs.Results as defined;
 ghost use Rattle.el_methods.specs.Results.{hex, is_in_files};
 ghost use Rattle.el_methods.specs.Replied.{IsTextOf, IsOwnAnswer};
-ghost use Rattle.el_mempool.specs.Standing.{StandsFor};
+ghost use Rattle.el_mempool.specs.Standing.{KeptStandFor};
 ghost use Rattle.el_tx.specs.declared.types.Tx as tx_shape;
-ghost use Rattle.el_methods.specs.Archives.{HasTransaction, HasChanged};
+ghost use Rattle.el_methods.specs.Archives.{HasTransaction, IsDifferentTx};
 ghost use Rattle.el_methods.specs.Outcomes.{IsAnswer, IsCounted, IsDiskCounted, RefusesOnly, TellsNoFiles, IsPrintableAnswer};
 ghost use Rattle.el_methods.specs.declared.stop.Stop.TheVariants as stop;
 ghost use Rattle.el_calls.specs.declared.refusal.Refusal as shape;
@@ -67,7 +67,7 @@ fn text_of<A: Archive>(
     ensures own { IfOk result (λ a. IsTextOf id a) }
     ensures never { IfErr result (λ e. (r : shape.Refusal) → e ≡ stop.Refused r → ⊥) }
     ensures changed { A.tells → IfErr result (λ e. e ≡ stop.Changed
-        → HasChanged spot.now id (seen ⟦<A as Archive>⟧ archive.new spot.now.place.file)) }
+        → IsDifferentTx spot.now id (seen ⟦<A as Archive>⟧ archive.new spot.now.place.file)) }
     ensures refusals { RefusesOnly (λ r. ⊥) result }
     ensures printable { IsPrintableAnswer result }
     ensures grows { A.tells → AllGrow (A.bytes archive.old) (A.bytes archive.new) }
@@ -101,7 +101,7 @@ fn confirmed_get<G: Ledger, A: Archive>(
         → HasTransaction (A.bytes archive.new) chain id → result ≢ Err stop.Changed }
     ensures changed { (chain : Chain) → G.stands ledger.old chain → A.tells
         → IfErr result (λ e. e ≡ stop.Changed → (spot : place.Spot) × (find_tx chain id ≡ Some spot)
-        × HasChanged spot id (seen ⟦<A as Archive>⟧ archive.new spot.place.file)) }
+        × IsDifferentTx spot id (seen ⟦<A as Archive>⟧ archive.new spot.place.file)) }
     ensures refusals { RefusesOnly (λ r. r ≡ refusal.NoSuchTransaction) result }
     ensures printable { IsPrintableAnswer result }
     ensures rows { (chain : Chain) → G.stands ledger.old chain
@@ -144,17 +144,17 @@ pub fn transaction_get<G: Ledger, A: Archive>(
 
     // Where the block files have the chain's transaction at its place.
     ensures answer { (chain : Chain) (kept : List tx_shape.Tx) → G.stands ledger.old chain
-        → StandsFor pool.now.entries chain kept → A.tells → HasTransaction (A.bytes archive.new) chain id
+        → KeptStandFor pool.now.entries chain kept → A.tells → HasTransaction (A.bytes archive.new) chain id
         → IsAnswer (defined.transaction_get chain kept id verbose) result }
     // Whatever they are, where it isn't read from them.
-    ensures of_set { (chain : Chain) (kept : List tx_shape.Tx) → StandsFor pool.now.entries chain kept
+    ensures of_set { (chain : Chain) (kept : List tx_shape.Tx) → KeptStandFor pool.now.entries chain kept
         → is_in_files kept id verbose ≡ false
         → IsAnswer (defined.transaction_get chain kept id verbose) result }
-    ensures untold { (chain : Chain) (kept : List tx_shape.Tx) → StandsFor pool.now.entries chain kept
+    ensures untold { (chain : Chain) (kept : List tx_shape.Tx) → KeptStandFor pool.now.entries chain kept
         → is_in_files kept id verbose ≡ false → TellsNoFiles result }
     // Whatever the block files hold, where it is read from them.
     ensures own { (chain : Chain) (kept : List tx_shape.Tx) → G.stands ledger.old chain
-        → StandsFor pool.now.entries chain kept → is_in_files kept id verbose ≡ true
+        → KeptStandFor pool.now.entries chain kept → is_in_files kept id verbose ≡ true
         → IsOwnAnswer chain id result }
     ensures printable { IsPrintableAnswer result }
     ensures rows { (chain : Chain) → G.stands ledger.old chain
@@ -168,7 +168,7 @@ pub fn transaction_get<G: Ledger, A: Archive>(
     // Only where the bytes that stand at the transaction's place are not its own.
     ensures changed { (chain : Chain) → G.stands ledger.old chain → A.tells
         → IfErr result (λ e. e ≡ stop.Changed → (spot : place.Spot) × (find_tx chain id ≡ Some spot)
-        × HasChanged spot id (seen ⟦<A as Archive>⟧ archive.new spot.place.file)) }
+        × IsDifferentTx spot id (seen ⟦<A as Archive>⟧ archive.new spot.place.file)) }
     ensures refusals { verbose ≡ false → RefusesOnly (λ r. r ≡ refusal.NoSuchTransaction) result }
     ensures verbose { verbose ≡ true → result ≡ Err (stop.Refused refusal.VerboseNotServed) }
     ensures counted { IsCounted (λ n. RoseBy (G.faults ledger.old) (G.faults ledger.new) n)

@@ -10,7 +10,7 @@ use Rattle.el_chain.specs.Chains.{Chain}
 use Rattle.el_row_formats.specs.declared.table.Table.{Table}
 use Rattle.el_row_formats.specs.declared.limits.TheConstants.{MIN_HEAD_BITS, MAX_HEAD_BITS}
 use Rattle.el_rows.specs.Changes.{count_at}
-use Rattle.el_redone.specs.Redone.{IsClosed, StandsFor}
+use Rattle.el_redone.specs.Redone.{IsClosed, ImageStandsFor}
 use Rattle.el_redone.specs.Steps.{EachNow, Leaves, AreOnDisk, IsAlike}
 use Rattle.el_redone.specs.declared.steps.TheConstants.{ROOT}
 use Rattle.el_redone.proofs.Runs.{now_has}
@@ -29,7 +29,7 @@ use Rattle.el_migrate.specs.OldIndexes.{HasOldCounts}
 use Rattle.el_migrate.specs.OldRows.{old_heads}
 use Rattle.el_migrate.specs.ImageChains.{StandsOld, StandsNew, ImageStands, StandsForOne, IsOldIndex, IsLikeOne}
 use Rattle.el_migrate.specs.within.Moving.{HasOldFiles}
-use Rattle.el_migrate.specs.within.Moved.{HaveOldRows, HaveNewRows, AreGrown, IsWritten}
+use Rattle.el_migrate.specs.within.Moved.{HaveOldRows, HaveNewRows, AreGrown, IsMetaWritten}
 use Rattle.el_migrate.specs.within.Ready.{IsBadOld, IsIndexWith, IsReady}
 use Rattle.el_migrate.specs.within.Rooting.{HasBothFiles, IsOpenedOld}
 use Rattle.el_migrate.proofs.Images.{rooted_same, old_same, both_stand}
@@ -47,7 +47,7 @@ new_of magic image chain rooted (inl new) = new
 new_of magic image chain rooted (inr old) = absurd (old.unrooted rooted)
 
 -- images that stand for the same files of format 1 stand for the same chains
-pub old_alike : (magic : List ℕ) (a b : Image) (chain : Chain) → ((files : Image) → StandsFor (Spells FORMAT_1) 0 9 files a → StandsFor (Spells FORMAT_1) 0 9 files b)
+pub old_alike : (magic : List ℕ) (a b : Image) (chain : Chain) → ((files : Image) → ImageStandsFor (Spells FORMAT_1) 0 9 files a → ImageStandsFor (Spells FORMAT_1) 0 9 files b)
     → (IsRooted b → ⊥) → StandsOld magic a chain → StandsOld magic b chain
 old_alike magic a b chain there unrooted s = record {
   unrooted = unrooted;
@@ -101,7 +101,7 @@ module _ {D : Type 0} (G : disk.Ghosts D) (earlier : (d : D) (t u : ℕ) (c : Im
       (now_has G earlier old m1 (StandsForOne magic a b) first (G.seen m1) (reads m1)))
 
   -- what the disk stood for as it read, it stands for
-  pub opened_chain : StandsFor (Spells FORMAT_1) 0 9 (G.seen m1) (G.seen old) → IsClosed (G.seen m1 9) → length (G.seen old 9) < 2 ^ 62
+  pub opened_chain : ImageStandsFor (Spells FORMAT_1) 0 9 (G.seen m1) (G.seen old) → IsClosed (G.seen m1 9) → length (G.seen old 9) < 2 ^ 62
       → (e : Chain) → ImageStands magic (G.seen old) e → StandsOld magic (G.seen m1) e
   opened_chain stands closed small e x = old_opened magic (G.seen old) (G.seen m1) small stands closed e not_yet (old_of magic (G.seen old) e unrooted x)
 
@@ -125,7 +125,7 @@ module _ {D : Type 0} (G : disk.Ghosts D) (earlier : (d : D) (t u : ℕ) (c : Im
     written_for e is = weaker G.moment G.left_since m1 m2 (HasOldFiles (G.seen m1)) (λ (image : Image). ImageStands magic image e) (λ c same. inr (old_same magic (G.seen m1) c e same is)) write
 
     module _ (have : (heads : HeadCounts) (bs : List ListedBlock) (l : Lists) → HaveOldRows heads bs l pages (G.seen m1) → HaveNewRows bits bs l pages (G.seen m2))
-        (written : IsWritten magic bits pages (G.seen m2)) (durable : AreOnDisk G 20 30 m2) (others : (f : ℕ) → (f < 20) ⊎ (29 < f) → G.seen m2 f ≡ G.seen m1 f) where
+        (written : IsMetaWritten magic bits pages (G.seen m2)) (durable : AreOnDisk G 20 30 m2) (others : (f : ℕ) → (f < 20) ⊎ (29 < f) → G.seen m2 f ≡ G.seen m1 f) where
       -- each image with the files of format 2 stands for the chain, once format 2 is live in it
       made : (e : Chain) → StandsOld magic (G.seen m1) e → (image : Image) → ((f : ℕ) → 20 ≤ f → f < 30 → image f ≡ G.seen m2 f) → IsRooted image → StandsNew magic image e
       made e is =
@@ -148,13 +148,13 @@ module _ {D : Type 0} (G : disk.Ghosts D) (earlier : (d : D) (t u : ℕ) (c : Im
           set)
 
   -- whatever its rows are, it is an index of format 2
-  pub built_index : (files now : Image) → AreGrown bits pages files → IsWritten magic bits pages files → ((f : ℕ) → 20 ≤ f → f < 30 → now f ≡ files f) → IsIndexWith magic bits now
+  pub built_index : (files now : Image) → AreGrown bits pages files → IsMetaWritten magic bits pages files → ((f : ℕ) → 20 ≤ f → f < 30 → now f ≡ files f) → IsIndexWith magic bits now
   built_index files now grown written same = written_index magic bits pages files least most opened.limited grown written now same
 
 -- ---- what an opening of format 1 and the move give
 
 -- the files that an opening leaves have tables for which the disk stood
-pub opened_index : (magic pages : List ℕ) (was now : Image) → HasOldCounts magic now pages → StandsFor (Spells FORMAT_1) 0 9 now was → HasOldHeads (count_at pages)
+pub opened_index : (magic pages : List ℕ) (was now : Image) → HasOldCounts magic now pages → ImageStandsFor (Spells FORMAT_1) 0 9 now was → HasOldHeads (count_at pages)
     → (tables : Tables) × IsOldIndex magic was tables
 opened_index magic pages was now has stands heads = (
   tables_in FORMAT_1 now pages,

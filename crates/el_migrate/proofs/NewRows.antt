@@ -25,14 +25,14 @@ use Rattle.el_schema.specs.Rows.{FitFields, tx_fields, head_fields, script_field
 use Rattle.el_schema.proofs.StandingLemmas.{stands}
 use Rattle.el_pages.specs.declared.layout.TheConstants.{FORMAT_2}
 use Rattle.el_pages.specs.Layouts.{file_of, size_in, limit_in, rows_in}
-use Rattle.el_pages.specs.Indexes.{IsRooted, Shows, tables_in}
+use Rattle.el_pages.specs.Indexes.{IsRooted, ShowsTables, tables_in}
 use Rattle.el_pages.proofs.Laid.{sizes_2, length-rows_in, get_or-rows_in}
 use Rattle.el_pages.proofs.Stands.{stands_shut}
 use Rattle.el_row_formats.specs.declared.limits.TheConstants.{MIN_HEAD_BITS, MAX_HEAD_BITS}
 use Rattle.el_migrate.specs.OldRows.{FitOldFields, old_bytes_of}
 use Rattle.el_migrate.specs.ImageChains.{StandsNew}
-use Rattle.el_migrate.specs.within.Moving.{HasRows, new_rows}
-use Rattle.el_migrate.specs.within.Moved.{HaveNewRows, HaveOldRows, AreGrown, IsWritten, new_count}
+use Rattle.el_migrate.specs.within.Moving.{HasOnlyRows, new_rows}
+use Rattle.el_migrate.specs.within.Moved.{HaveNewRows, HaveOldRows, AreGrown, IsMetaWritten, new_count}
 use Rattle.el_migrate.specs.within.Ready.{IsIndexWith}
 use Rattle.el_migrate.proofs.Fits.{fits_block, fits_tx, fits_out, fits_in, fits_script, fits_entry}
 
@@ -112,7 +112,7 @@ module _ (counts : HeadCounts) (bits : ℕ) (bs : List ListedBlock) (l : Lists) 
 -- ---- the files that were written, whatever their rows are
 
 module _ (magic : List ℕ) (bits : ℕ) (pages : List ℕ) (files : Image) (may_be : MIN_HEAD_BITS ≤ bits) (at_most : bits ≤ MAX_HEAD_BITS)
-    (limited : (t : Table) → count_at pages t ≤ 4294967295) (grown : AreGrown bits pages files) (written : IsWritten magic bits pages files) where
+    (limited : (t : Table) → count_at pages t ≤ 4294967295) (grown : AreGrown bits pages files) (written : IsMetaWritten magic bits pages files) where
   heads_limited : 2 ^ bits ≤ 1099511627776
   heads_limited = (let le : 2 ^ bits ≤ 2 ^ 24 = pow_mono at_most in omega (arith, le))
 
@@ -133,7 +133,7 @@ module _ (magic : List ℕ) (bits : ℕ) (pages : List ℕ) (files : Image) (may
       omega (arith, long, same)
 
   module _ (image : Image) (same : (f : ℕ) → 20 ≤ f → f < 30 → image f ≡ files f) where
-    pub written_shows : Shows FORMAT_2 (head_bytes magic bits) image (tables_in FORMAT_2 files written.numbers)
+    pub written_shows : ShowsTables FORMAT_2 (head_bytes magic bits) image (tables_in FORMAT_2 files written.numbers)
     written_shows = record {
       files = files;
       stands = stands_shut FORMAT_2 files image (record { gate = 0; rest = []; is = same 29 (omega arith) (omega arith) ∙ written.redo; closed = λ e. absurd (omega (arith, e)) })
@@ -161,7 +161,7 @@ module _ (magic : List ℕ) (bits : ℕ) (pages : List ℕ) (files : Image) (may
 
 -- ---- the tables that were written
 
-rows_are : (t : Table) (file : List ℕ) (rows : List (List ℕ)) (n : ℕ) → HasRows t file rows n → length rows ≡ n → rows_in (size_in FORMAT_2 t) file n ≡ rows
+rows_are : (t : Table) (file : List ℕ) (rows : List (List ℕ)) (n : ℕ) → HasOnlyRows t file rows n → length rows ≡ n → rows_in (size_in FORMAT_2 t) file n ≡ rows
 rows_are t file rows n has long =
     ext_get_or [] (rows_in (size_in FORMAT_2 t) file n) rows (length-rows_in (size_in FORMAT_2 t) file n ∙ sym long)
     (λ i lt. let below : i < n = omega (arith, lt, length-rows_in (size_in FORMAT_2 t) file n) in
@@ -170,7 +170,7 @@ rows_are t file rows n has long =
 module _ (magic : List ℕ) (bits : ℕ) (chain : Chain) (good : IsGood chain) (counts : HeadCounts) (pages : List ℕ) (old files : Image)
     (may_be : MIN_HEAD_BITS ≤ bits) (at_most : bits ≤ MAX_HEAD_BITS) (limited : (t : Table) → count_at pages t ≤ 4294967295)
     (had : HaveOldRows counts (listed_blocks chain) (lists chain) pages old) (have : HaveNewRows bits (listed_blocks chain) (lists chain) pages files)
-    (written : IsWritten magic bits pages files) where
+    (written : IsMetaWritten magic bits pages files) where
   abbrev bs : List ListedBlock
   bs = listed_blocks chain
 

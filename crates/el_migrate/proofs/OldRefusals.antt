@@ -8,7 +8,7 @@ use Rattle.el_row_formats.specs.Tables.{Tables}
 use Rattle.el_rows.specs.Changes.{count_at}
 use Rattle.el_redo.specs.declared.faults.OpenFault.{OpenFault}
 use Rattle.el_redo.specs.declared.faults.OpenFault.TheVariants as fault
-use Rattle.el_redone.specs.Redone.{StandsFor}
+use Rattle.el_redone.specs.Redone.{ImageStandsFor}
 use Rattle.el_pages.specs.declared.layout.TheConstants.{FORMAT_1}
 use Rattle.el_pages.specs.Layouts.{file_of, size_in}
 use Rattle.el_pages.specs.Records.{Spells}
@@ -62,7 +62,7 @@ module _ (magic : List ℕ) (old begun new : Image) (b : Begun 9 old begun) (e :
       (λ bad. inr (bad.3 ∙ bad_same FORMAT_1 old begun b some_old bad.0 bad.2))
       told
 
-  pub files_refused : StandsFor (Spells FORMAT_1) 0 9 new begun → Told e (IsBadOldFiles FORMAT_1 (from_le_bytes w32 magic) (new 0) (sizes_in FORMAT_1 new))
+  pub files_refused : ImageStandsFor (Spells FORMAT_1) 0 9 new begun → Told e (IsBadOldFiles FORMAT_1 (from_le_bytes w32 magic) (new 0) (sizes_in FORMAT_1 new))
       → Told e (IsBadOldIndex FORMAT_1 (from_le_bytes w32 magic) old)
   files_refused stands told = ⊎_elim
       (λ failed. inl failed)

@@ -9,7 +9,7 @@ use Rattle.el_row_formats.specs.OldRowBytes.{old_size_of}
 use Rattle.el_row_formats.proofs.Keys.{index_within}
 use Rattle.el_rows.specs.Changes.{count_at}
 use Rattle.el_redo.specs.RedoBody.{numbers_bytes, all_tables}
-use Rattle.el_redone.specs.Redone.{IsClosed, StandsFor}
+use Rattle.el_redone.specs.Redone.{IsClosed, ImageStandsFor}
 use Rattle.el_tables.specs.ChainLists.{lists, listed_blocks}
 use Rattle.el_tables.specs.Tables as typed
 use Rattle.el_tables.specs.Tables.{in_both, tables_of}
@@ -22,7 +22,7 @@ use Rattle.el_pages.proofs.Laid.{length-rows_in, get_or-rows_in}
 use Rattle.el_pages.proofs.Stands.{stands_shut}
 use Rattle.el_recovery.proofs.Alike.{one_stands}
 use Rattle.el_recovery.proofs.OneIndex.{one_index}
-use Rattle.el_migrate.specs.OldIndexes.{old_head_bytes, HasNone, HasOldCounts, ShowsOld}
+use Rattle.el_migrate.specs.OldIndexes.{old_head_bytes, IsUnwritten, HasOldCounts, ShowsOld}
 use Rattle.el_migrate.specs.OldRows.{EncodeOld, old_bytes_of, old_heads, StandForOld}
 use Rattle.el_migrate.specs.ImageChains.{StandsOld}
 use Rattle.el_migrate.specs.within.Moved.{HaveOldRows}
@@ -36,7 +36,7 @@ held_old rows chain s =
 
 -- ---- once it was redone
 
-module _ (magic : List ℕ) (old mid : Image) (small : length (old 9) < 2 ^ 62) (stands : StandsFor (Spells FORMAT_1) 0 9 mid old) (closed : IsClosed (mid 9)) where
+module _ (magic : List ℕ) (old mid : Image) (small : length (old 9) < 2 ^ 62) (stands : ImageStandsFor (Spells FORMAT_1) 0 9 mid old) (closed : IsClosed (mid 9)) where
   -- its files stand for the same chain
   pub old_opened : (chain : Chain) → (IsRooted mid → ⊥) → StandsOld magic old chain → StandsOld magic mid chain
   old_opened chain unrooted s = record {
@@ -70,7 +70,7 @@ same_file : (t : Table) → (0 ≤ file_of FORMAT_1 t) × (file_of FORMAT_1 t < 
 same_file t = (omega arith, omega (arith, index_within t))
 
 module _ (magic pages : List ℕ) (mid : Image) (tables : Tables) (small : length (mid 9) < 2 ^ 62) (closed : IsClosed (mid 9)) (has : HasOldCounts magic mid pages) (shows : ShowsOld magic mid tables) where
-  self : StandsFor (Spells FORMAT_1) 0 9 mid mid
+  self : ImageStandsFor (Spells FORMAT_1) 0 9 mid mid
   self = stands_shut FORMAT_1 mid mid closed (λ f low lt. refl)
 
   files_same : (f : ℕ) → 0 ≤ f → f < 9 → shows.files f ≡ mid f
@@ -90,11 +90,11 @@ module _ (magic pages : List ℕ) (mid : Image) (tables : Tables) (small : lengt
       sym (one_index FORMAT_1 (λ u. omega (arith, limits_1 u)) (old_head_bytes magic) (old_head_bytes magic) refl mid (tables_in FORMAT_1 mid pages) tables small
       (record { files = mid; stands = self; counts = pages; has = m; same = λ u. refl })
       (record { files = shows.files; stands = shows.stands; counts = shows.counts; has = n; same = shows.same }) t))
-      (λ (n : HasNone shows.files shows.counts). absurd (no_meta magic pages m.rest (sym n.empty ∙ files_same 0 (omega arith) (omega arith) ∙ m.meta)))
+      (λ (n : IsUnwritten shows.files shows.counts). absurd (no_meta magic pages m.rest (sym n.empty ∙ files_same 0 (omega arith) (omega arith) ∙ m.meta)))
       shows.has)
-      (λ (m : HasNone mid pages). ⊎_elim
+      (λ (m : IsUnwritten mid pages). ⊎_elim
       (λ (n : HasCounts FORMAT_1 (old_head_bytes magic) shows.files shows.counts). absurd (no_meta magic shows.counts n.rest (sym m.empty ∙ sym (files_same 0 (omega arith) (omega arith)) ∙ n.meta)))
-      (λ (n : HasNone shows.files shows.counts). no_rows pages t mid (m.none t) ∙ sym (shows.same t ∙ no_rows shows.counts t shows.files (n.none t)))
+      (λ (n : IsUnwritten shows.files shows.counts). no_rows pages t mid (m.none t) ∙ sym (shows.same t ∙ no_rows shows.counts t shows.files (n.none t)))
       shows.has)
       has
 
@@ -102,7 +102,7 @@ module _ (magic pages : List ℕ) (mid : Image) (tables : Tables) (small : lengt
   holds : (t : Table) → count_at pages t * old_size_of t ≤ length (mid (file_of FORMAT_1 t))
   holds t = ⊎_elim
       (λ (m : HasCounts FORMAT_1 (old_head_bytes magic) mid pages). subst (λ s. count_at pages t * s ≤ length (mid (file_of FORMAT_1 t))) (sizes_1 t) (m.holds t))
-      (λ (m : HasNone mid pages). subst (λ n. n * old_size_of t ≤ length (mid (file_of FORMAT_1 t))) (sym (m.none t)) (omega arith))
+      (λ (m : IsUnwritten mid pages). subst (λ n. n * old_size_of t ≤ length (mid (file_of FORMAT_1 t))) (sym (m.none t)) (omega arith))
       has
 
   -- so the files have the rows of the chain's lists

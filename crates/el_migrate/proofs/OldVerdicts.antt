@@ -10,7 +10,7 @@ use Rattle.el_row_formats.specs.Tables.{number_of}
 use Rattle.el_row_formats.proofs.Keys.{same_index, index_within}
 use Rattle.el_rows.specs.Changes.{count_at}
 use Rattle.el_redo.specs.RedoBody.{numbers_bytes, all_tables}
-use Rattle.el_redone.specs.Redone.{StandsFor}
+use Rattle.el_redone.specs.Redone.{ImageStandsFor}
 use Rattle.el_pages.specs.declared.layout.Layout.{Layout}
 use Rattle.el_pages.specs.declared.layout.TheConstants.{FORMAT_1, LETTERS}
 use Rattle.el_pages.specs.Layouts.{file_of, redo_of, size_in, limit_in}
@@ -22,7 +22,7 @@ use Rattle.el_recovery.proofs.Alike.{one_stands}
 use Rattle.el_recovery.proofs.Decided.{one_bad_body, stands_or_bad}
 use Rattle.el_migrate.proofs.OldMetas.{meta_head, count_is}
 use Rattle.el_migrate.specs.OldChecks.{HasOldHeads, IsOldHead, IsBadOldHead, IsBadOldHeads, IsBadOldRow, IsBadOldTable, IsBadOldFiles, HasBadOldFiles, IsBadOldIndex}
-use Rattle.el_migrate.specs.OldIndexes.{old_head_bytes, HasNone, HasOldCounts}
+use Rattle.el_migrate.specs.OldIndexes.{old_head_bytes, IsUnwritten, HasOldCounts}
 use Rattle.el_migrate.specs.declared.old_files.TheConstants.{OLD_BUCKETS}
 
 -- ---- what is found is one
@@ -172,7 +172,7 @@ meta_long magic counts rest file four is =
 
 -- one that stands for tables with the heads that they may have isn't bad
 pub settled_or_bad : (magic : List ℕ) (image files : Image) (counts : List ℕ) (found : Found) → length magic ≡ 4 → length (image 9) < 2 ^ 62 → ((t : Table) → 0 < size_in FORMAT_1 t)
-    → StandsFor (Spells FORMAT_1) 0 9 files image → HasOldCounts magic files counts → HasOldHeads (count_at counts)
+    → ImageStandsFor (Spells FORMAT_1) 0 9 files image → HasOldCounts magic files counts → HasOldHeads (count_at counts)
     → IsBadOldIndex FORMAT_1 (from_le_bytes w32 magic) image found → ⊥
 settled_or_bad magic image files counts found four small sized stands has heads bad = ⊎_elim
     (λ body. stands_or_bad FORMAT_1 sized image files found small stands body)
@@ -188,7 +188,7 @@ settled_or_bad magic image files counts found four small sized stands has heads 
     (subst (λ (c : Table → ℕ). HasOldHeads c) (sym same) heads)
     (λ t. omega (arith, told t, m.limited t))
     (λ t. subst (λ n. n * size_in FORMAT_1 t ≤ length (files (file_of FORMAT_1 t))) (sym (told t)) (m.holds t)))
-    (λ (none : HasNone files counts). ⊎_elim
+    (λ (none : IsUnwritten files counts). ⊎_elim
     (λ short. omega (arith, short.0, ap (λ (b : List ℕ). length b) none.empty))
     (λ more. omega (arith, more.0, ap (λ (b : List ℕ). length b) none.empty))
     which)

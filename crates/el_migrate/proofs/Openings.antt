@@ -32,11 +32,11 @@ use Rattle.el_pages.specs.Indexes.{IsRooted}
 use Rattle.el_pages.specs.declared.store.Pages.{Pages}
 use Rattle.el_pages.specs.Stores.{rows_of, bits_of, lists_long}
 use Rattle.el_pages.proofs.Laid.{limits_2}
-use Rattle.el_recovery.specs.Checks.{Found, bad_index, IsIndex, HasHeads, IsBadBody, IsBadIndex}
+use Rattle.el_recovery.specs.Checks.{Found, bad_index, IsIndex, HasHeadOfEachBucket, IsBadBody, IsBadIndex}
 use Rattle.el_recovery.proofs.OneIndex.{one_index, heads_long}
 use Rattle.el_migrate.specs.declared.old_files.TheConstants.{OLD_BUCKETS}
 use Rattle.el_migrate.specs.OldRows.{old_bytes_of}
-use Rattle.el_migrate.specs.ImageChains.{StandsNew, StandsOld, ImageStands, IsOldIndex, IsAnyIndex, IsBadAny, IsBeyond}
+use Rattle.el_migrate.specs.ImageChains.{StandsNew, StandsOld, ImageStands, IsOldIndex, IsAnyIndex, IsBadAny, IsOtherFile}
 use Rattle.el_migrate.specs.within.Ready.{IsReady}
 use Rattle.el_migrate.proofs.Images.{rooted_or_not}
 use Rattle.el_migrate.proofs.SameFiles.{index_there, index_with, bad_there, body_there}
@@ -139,7 +139,7 @@ rows_stand magic image rows chain bits small rooted stands i many =
     subst (λ (n : ℕ). StandWith n rows chain) powers (same_with (2 ^ s.bits) s.tables rows chain s.stand same)
 
 -- a file beyond both formats' is beyond format 2's
-pub beyond_new : (f : ℕ) → IsBeyond f → (f < 20) ⊎ (30 < f)
+pub beyond_new : (f : ℕ) → IsOtherFile f → (f < 20) ⊎ (30 < f)
 beyond_new f (inl at) = inl at.1
 beyond_new f (inr at) = inr at
 
@@ -169,9 +169,9 @@ module _ {D N : Type 0} {G : disk.Ghosts D} {H : network.Ghosts N} (old mid : D)
         (rooted_or_not was))
         shows
 
-    module _ (heads_of : IfOk r (λ store. HasHeads (bits_of store) (count_at store.counts))) where
+    module _ (heads_of : IfOk r (λ store. HasHeadOfEachBucket (bits_of store) (count_at store.counts))) where
       pub shows_after : IsRooted was → IfOk r (λ store. (index : IsIndex H.magic was (rows_of store)) × (index.bits ≡ bits_of store))
-      shows_after live = ok_two r (λ store. IsIndex H.magic now (rows_of store)) (λ store. HasHeads (bits_of store) (count_at store.counts))
+      shows_after live = ok_two r (λ store. IsIndex H.magic now (rows_of store)) (λ store. HasHeadOfEachBucket (bits_of store) (count_at store.counts))
           (λ store. (index : IsIndex H.magic was (rows_of store)) × (index.bits ≡ bits_of store))
           (λ store i has.
           let j = index_with H.magic now was (rows_of store) (same_files live) i in
@@ -179,14 +179,14 @@ module _ {D N : Type 0} {G : disk.Ghosts D} {H : network.Ghosts N} (old mid : D)
           shows heads_of
 
       pub moved_after : (IsRooted was → ⊥) → IfOk r (λ store. bits_of store ≡ bits)
-      moved_after not = ok_two r (λ store. IsIndex H.magic now (rows_of store)) (λ store. HasHeads (bits_of store) (count_at store.counts)) (λ store. bits_of store ≡ bits)
+      moved_after not = ok_two r (λ store. IsIndex H.magic now (rows_of store)) (λ store. HasHeadOfEachBucket (bits_of store) (count_at store.counts)) (λ store. bits_of store ≡ bits)
           (λ store i has.
           let m = ready.moved not in
           sym (one_power i.bits (bits_of store) (sym i.heads.0 ∙ rows_long store table.TxHeads ∙ has.0)) ∙ same_bits H.magic now (rows_of store) m.tables small i m.index ∙ m.is)
           shows heads_of
 
       pub chain_after : (chain : Chain) → ImageStands H.magic was chain → IfOk r (λ store. StandWith (2 ^ bits_of store) (rows_of store) chain)
-      chain_after chain stands = ok_two r (λ store. IsIndex H.magic now (rows_of store)) (λ store. HasHeads (bits_of store) (count_at store.counts))
+      chain_after chain stands = ok_two r (λ store. IsIndex H.magic now (rows_of store)) (λ store. HasHeadOfEachBucket (bits_of store) (count_at store.counts))
           (λ store. StandWith (2 ^ bits_of store) (rows_of store) chain)
           (λ store i has. rows_stand H.magic now (rows_of store) chain (bits_of store) small (ready.rooted now reads) (ready.chain chain stands) i (rows_long store table.TxHeads ∙ has.0))
           shows heads_of

@@ -19,8 +19,8 @@ use Rattle.el_pages.specs.Records.{Spells}
 use Rattle.el_pages.specs.Indexes.{IsRooted}
 use Rattle.el_recovery.specs.Checks.{Found, bad_index, IsBadBody}
 use Rattle.el_recovery.proofs.Opens.{begun_alike}
-use Rattle.el_migrate.specs.ImageChains.{ImageStands, StandsForOne, IsOldIndex, IsNoIndex, IsLike, IsLikeOne, IsBeyond}
-use Rattle.el_migrate.specs.within.Ready.{IsBadOld, IsReady, IsRefused, KeepsAll}
+use Rattle.el_migrate.specs.ImageChains.{ImageStands, StandsForOne, IsOldIndex, IsNoIndex, IsLike, IsLikeOne, IsOtherFile}
+use Rattle.el_migrate.specs.within.Ready.{IsBadOld, IsReady, IsOpeningRefused, KeepsAll}
 use Rattle.el_migrate.specs.within.Rooting.{HasNewFiles}
 use Rattle.el_migrate.proofs.Images.{rooted_same, read_leaves, dropped_one, dropped_rooted, dropped_stands}
 use Rattle.el_migrate.proofs.SameFiles.{index_with}
@@ -51,7 +51,7 @@ like_new from c rooted same = record {
   old = λ u. absurd (u rooted);
 }
 
-pub beyond_old : (f : ℕ) → IsBeyond f → 9 < f
+pub beyond_old : (f : ℕ) → IsOtherFile f → 9 < f
 beyond_old f (inl at) = at.0
 beyond_old f (inr at) = omega (arith, at)
 
@@ -67,7 +67,7 @@ module _ {D : Type 0} (G : disk.Ghosts D) (earlier : (d : D) (t u : ℕ) (c : Im
   module _ (magic : List ℕ) (old mid : D) where
     -- ---- the disk was read, or synced
 
-    pub keeps_read : Leaves G (LeftNow G.moment G.left_since old) old mid → ((f : ℕ) → IsBeyond f → G.seen mid f ≡ G.seen old f) → KeepsAll G magic old mid
+    pub keeps_read : Leaves G (LeftNow G.moment G.left_since old) old mid → ((f : ℕ) → IsOtherFile f → G.seen mid f ≡ G.seen old f) → KeepsAll G magic old mid
     keeps_read run same = record {
       crash = λ a b each. read_leaves G (StandsForOne magic a b) old mid run each;
       like = λ h. read_leaves G (IsLikeOne G old) old mid run (like_now old);
@@ -177,7 +177,7 @@ module _ {D : Type 0} (G : disk.Ghosts D) (earlier : (d : D) (t u : ℕ) (c : Im
 -- ---- what is refused
 
 -- a call failed
-pub refused_failed : (magic : List ℕ) (was now : Image) (e : OpenFault) → e ≡ fault.DiskFailed → IsRefused magic was now e
+pub refused_failed : (magic : List ℕ) (was now : Image) (e : OpenFault) → e ≡ fault.DiskFailed → IsOpeningRefused magic was now e
 refused_failed magic was now e failed = record {
   live = λ r. failed;
   which = inl failed;
@@ -187,15 +187,15 @@ refused_failed magic was now e failed = record {
 }
 
 -- what an image is that reads the same
-pub refused_was : (magic : List ℕ) (a b now : Image) (e : OpenFault) → a ≡ b → IsRefused magic a now e → IsRefused magic b now e
-refused_was magic a b now e same refused = subst (λ (was : Image). IsRefused magic was now e) same refused
+pub refused_was : (magic : List ℕ) (a b now : Image) (e : OpenFault) → a ≡ b → IsOpeningRefused magic a now e → IsOpeningRefused magic b now e
+refused_was magic a b now e same refused = subst (λ (was : Image). IsOpeningRefused magic was now e) same refused
 
 -- format 1 isn't opened
 pub refused_old : (magic : List ℕ) (was now : Image) (e : OpenFault) → (IsRooted was → ⊥)
     → (e ≡ fault.DiskFailed) ⊎ ((found : Found) × (e ≡ bad_index found) × IsBadOld magic was found)
     → ((found : Found) → IsBadOld magic was found → (e ≡ fault.DiskFailed) ⊎ (e ≡ bad_index found))
     → ((tables : Tables) → IsOldIndex magic was tables → e ≡ fault.DiskFailed)
-    → ((found : Found) → IsBadBody FORMAT_1 was found → (e ≡ fault.DiskFailed) ⊎ (now ≡ was)) → IsRefused magic was now e
+    → ((found : Found) → IsBadBody FORMAT_1 was found → (e ≡ fault.DiskFailed) ⊎ (now ≡ was)) → IsOpeningRefused magic was now e
 refused_old magic was now e unrooted bad is_bad opens untouched = record {
   live = λ r. absurd (unrooted r);
   which = ⊎_elim (λ failed. inl failed) (λ b. inr (inr b)) bad;
@@ -206,7 +206,7 @@ refused_old magic was now e unrooted bad is_bad opens untouched = record {
 
 -- it is opened, and isn't moved
 pub refused_move : (magic : List ℕ) (was now : Image) (e : OpenFault) → (IsRooted was → ⊥) → (e ≡ fault.DiskFailed) ⊎ (e ≡ fault.Memory)
-    → (tables : Tables) × IsOldIndex magic was tables → ((found : Found) → IsBadOld magic was found → ⊥) → IsRefused magic was now e
+    → (tables : Tables) × IsOldIndex magic was tables → ((found : Found) → IsBadOld magic was found → ⊥) → IsOpeningRefused magic was now e
 refused_move magic was now e unrooted which index sound = record {
   live = λ r. absurd (unrooted r);
   which = ⊎_elim (λ failed. inl failed) (λ m. inr (inl (m, index))) which;

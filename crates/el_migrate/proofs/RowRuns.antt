@@ -14,11 +14,11 @@ use Rattle.el_tables.specs.Tables.{HeadCounts}
 use Rattle.el_page_cache.proofs.Rows.{row_ends, row_over_here, row_over_other, rows_over_here, rows_over_other, row_drop, row_take}
 use Rattle.el_pages.specs.declared.layout.TheConstants.{FORMAT_1, FORMAT_2}
 use Rattle.el_pages.specs.Layouts.{file_of}
-use Rattle.el_migrate.specs.within.Moving.{HasRows, HasOldRows, IsOldRow}
+use Rattle.el_migrate.specs.within.Moving.{HasOnlyRows, HasOldRows, IsOldRow}
 
 -- a run behind those that stand in the file
-pub run_rows : (t : Table) (file bytes : List ℕ) (all : List (List ℕ)) (first rows : ℕ) → HasRows t file all first → length bytes ≡ rows * size_of t
-    → ((j : ℕ) → j < rows → row_at (size_of t) bytes j ≡ get_or all (first + j) []) → HasRows t (over file (first * size_of t) bytes) all (first + rows)
+pub run_rows : (t : Table) (file bytes : List ℕ) (all : List (List ℕ)) (first rows : ℕ) → HasOnlyRows t file all first → length bytes ≡ rows * size_of t
+    → ((j : ℕ) → j < rows → row_at (size_of t) bytes j ≡ get_or all (first + j) []) → HasOnlyRows t (over file (first * size_of t) bytes) all (first + rows)
 run_rows t file bytes all first rows has long each = record {
   long = (let is = length-over file (first * size_of t) bytes (omega (arith, has.long)) in let both : (first + rows) * size_of t ≡ first * size_of t + rows * size_of t = omega arith in omega (arith, is, has.long, long, both));
   each = λ i lt. ⊎_elim
@@ -34,7 +34,7 @@ run_rows t file bytes all first rows has long each = record {
 }
 
 -- no rows
-pub no_run : (t : Table) (file : List ℕ) (all : List (List ℕ)) → file ≡ [] → HasRows t file all 0
+pub no_run : (t : Table) (file : List ℕ) (all : List (List ℕ)) → file ≡ [] → HasOnlyRows t file all 0
 no_run t file all none = record { long = ap length none ∙ (let zero_is : 0 ≡ 0 * size_of t = omega arith in zero_is); each = λ i lt. absurd (omega (arith, lt)) }
 
 -- a table's file of format 1 is none of format 2

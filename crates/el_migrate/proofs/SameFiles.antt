@@ -7,12 +7,12 @@ use Rattle.el_row_formats.specs.Tables.{Tables}
 use Rattle.el_row_formats.proofs.Keys.{index_within}
 use Rattle.el_rows.specs.Changes.{Changes}
 use Rattle.el_redo.specs.RedoBody.{changes_bytes}
-use Rattle.el_redone.specs.Redone.{into, Fits, ends}
+use Rattle.el_redone.specs.Redone.{into, WritesFit, ends}
 use Rattle.el_pages.specs.declared.layout.Layout.{Layout}
 use Rattle.el_pages.specs.declared.layout.TheConstants.{FORMAT_2}
 use Rattle.el_pages.specs.Layouts.{file_of, redo_of, size_in}
 use Rattle.el_pages.specs.Records.{write_of}
-use Rattle.el_recovery.specs.Checks.{Found, IsOpen, length_told, body_told, Reaches, rows_then, IsShortFile, IsLongBody, IsShortBody, IsBadNext, IsBadChange, IsBadBody, HasBadFiles, IsBadIndex, IsIndex}
+use Rattle.el_recovery.specs.Checks.{Found, IsGateOpen, length_told, body_told, Reaches, rows_then, IsShortFile, IsLongBody, IsShortBody, IsBadNext, IsBadChange, IsBadBody, HasBadFiles, IsBadIndex, IsIndex}
 use Rattle.el_recovery.proofs.Opens.{begun_stands}
 
 module _ (l : Layout) (a b : Image) (same : (f : ℕ) → l.first ≤ f → f ≤ redo_of l → b f ≡ a f) (found : Found) where
@@ -26,7 +26,7 @@ module _ (l : Layout) (a b : Image) (same : (f : ℕ) → l.first ≤ f → f �
   short_there s =
       let k : List ℕ → Found = λ x. (redo_of l, 9, length x) in
       record {
-        opened = subst (λ (x : List ℕ). IsOpen x) (sym redo) s.opened;
+        opened = subst (λ (x : List ℕ). IsGateOpen x) (sym redo) s.opened;
         short = subst (λ (x : List ℕ). length x < 9) (sym redo) s.short;
         is = s.is ∙ ap k (sym redo);
       }
@@ -35,7 +35,7 @@ module _ (l : Layout) (a b : Image) (same : (f : ℕ) → l.first ≤ f → f �
   long_there s =
       let k : List ℕ → Found = λ x. (redo_of l, length_told x, length x - 9) in
       record {
-        opened = subst (λ (x : List ℕ). IsOpen x) (sym redo) s.opened;
+        opened = subst (λ (x : List ℕ). IsGateOpen x) (sym redo) s.opened;
         nine = subst (λ (x : List ℕ). 9 ≤ length x) (sym redo) s.nine;
         beyond = subst (λ (x : List ℕ). length x - 9 < length_told x) (sym redo) s.beyond;
         is = s.is ∙ ap k (sym redo);
@@ -45,7 +45,7 @@ module _ (l : Layout) (a b : Image) (same : (f : ℕ) → l.first ≤ f → f �
   short_body_there s =
       let k : List ℕ → Found = λ x. (redo_of l, l.meta, length_told x) in
       record {
-        opened = subst (λ (x : List ℕ). IsOpen x) (sym redo) s.opened;
+        opened = subst (λ (x : List ℕ). IsGateOpen x) (sym redo) s.opened;
         nine = subst (λ (x : List ℕ). 9 ≤ length x) (sym redo) s.nine;
         room = subst (λ (x : List ℕ). length_told x ≤ length x - 9) (sym redo) s.room;
         short = subst (λ (x : List ℕ). length_told x < l.meta) (sym redo) s.short;
@@ -54,14 +54,14 @@ module _ (l : Layout) (a b : Image) (same : (f : ℕ) → l.first ≤ f → f �
 
   reaches_there : (rest : List ℕ) (changes : Changes) → Reaches l a rest changes → Reaches l b rest changes
   reaches_there rest changes r = record {
-    opened = subst (λ (x : List ℕ). IsOpen x) (sym redo) r.opened;
+    opened = subst (λ (x : List ℕ). IsGateOpen x) (sym redo) r.opened;
     nine = subst (λ (x : List ℕ). 9 ≤ length x) (sym redo) r.nine;
     room = subst (λ (x : List ℕ). length_told x ≤ length x - 9) (sym redo) r.room;
     meta = r.meta;
     long = r.long;
     is = subst (λ (x : List ℕ). body_told x ≡ r.meta ++ (changes_bytes changes ++ rest)) (sym redo) r.is;
     whole = r.whole;
-    fits = λ t. subst (λ (x : List ℕ). Fits (into (file_of l t) (map (write_of l) changes)) (length x)) (sym (each t)) (r.fits t);
+    fits = λ t. subst (λ (x : List ℕ). WritesFit (into (file_of l t) (map (write_of l) changes)) (length x)) (sym (each t)) (r.fits t);
   }
 
   rows_same : (changes : Changes) → rows_then l a changes ≡ rows_then l b changes

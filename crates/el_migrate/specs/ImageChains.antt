@@ -12,7 +12,7 @@ use Rattle.el_redone.specs.declared.steps.TheConstants.{ROOT}
 use Rattle.el_schema.specs.Standing.{StandWith}
 use Rattle.el_pages.specs.declared.layout.TheConstants.{FORMAT_1, FORMAT_2}
 use Rattle.el_pages.specs.Records.{Spells}
-use Rattle.el_pages.specs.Indexes.{IsRooted, Shows}
+use Rattle.el_pages.specs.Indexes.{IsRooted, ShowsTables}
 use Rattle.el_recovery.specs.Checks.{Found, HasBits, IsIndex, IsBadIndex}
 use Rattle.el_migrate.specs.OldIndexes.{ShowsOld}
 use Rattle.el_migrate.specs.OldChecks.{HasOldHeads, IsBadOldIndex}
@@ -32,7 +32,7 @@ pub record StandsNew (magic : List ℕ) (image : Image) (chain : Chain) : Type 0
   pub bits : ℕ
   pub may_be : HasBits bits
   pub tables : Tables
-  pub shows : Shows FORMAT_2 (head_bytes magic bits) image tables
+  pub shows : ShowsTables FORMAT_2 (head_bytes magic bits) image tables
   pub stand : StandWith (2 ^ bits) tables chain
 
 -- the image stands for the chain, in the format that is live
@@ -77,5 +77,5 @@ IsBadAny magic image found =
     ⊎ ((IsRooted image → ⊥) × IsBadOldIndex FORMAT_1 magic image found)
 
 -- a file that is neither format's nor the root
-abbrev pub IsBeyond : ℕ → Type 0
-IsBeyond f = ((9 < f) × (f < 20)) ⊎ (30 < f)
+abbrev pub IsOtherFile : ℕ → Type 0
+IsOtherFile f = ((9 < f) × (f < 20)) ⊎ (30 < f)

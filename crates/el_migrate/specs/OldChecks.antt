@@ -4,7 +4,7 @@ use Rattle.std.specs.Prelude.{◌≡◌, ◌≢◌, ◌⊎◌, ◌≤◌, ◌<�
 use Rattle.el_outside.specs.Disk.{Image}
 use Rattle.el_row_formats.specs.declared.table.Table.{Table}
 use Rattle.el_row_formats.specs.declared.table.Table.TheVariants as table
-use Rattle.el_redone.specs.Redone.{StandsFor}
+use Rattle.el_redone.specs.Redone.{ImageStandsFor}
 use Rattle.el_pages.specs.declared.layout.Layout.{Layout}
 use Rattle.el_pages.specs.declared.layout.TheConstants.{LETTERS}
 use Rattle.el_pages.specs.Layouts.{file_of, redo_of, limit_in}
@@ -62,7 +62,7 @@ IsBadOldFiles l magic file size found =
 -- The image's redo file isn't bad, and the files that it stands for are.
 pub record HasBadOldFiles (l : Layout) (magic : ℕ) (image : Image) (found : Found) : Type 0 where
   pub files : Image
-  pub stands : StandsFor (Spells l) l.first (redo_of l) files image
+  pub stands : ImageStandsFor (Spells l) l.first (redo_of l) files image
   pub which : IsBadOldFiles l magic (files l.first) (sizes_in l files) found
 
 -- The image stands for no tables that an opening takes: the first check that fails finds this.

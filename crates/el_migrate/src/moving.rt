@@ -15,8 +15,8 @@ ghost use Rattle.el_redone.specs.Steps.{EachNow, Leaves, AreOnDisk};
 ghost use Rattle.el_redone.specs.declared.steps.TheConstants.{ROOT};
 ghost use Rattle.el_pages.specs.declared.layout.TheConstants.{FORMAT_1, FORMAT_2};
 ghost use Rattle.el_pages.specs.Layouts.{file_of};
-ghost use Rattle.el_migrate.specs.within.Moving.{AreHeads, IsMoved, HasRows, HasOldRows, HasOldFiles, new_rows};
-ghost use Rattle.el_migrate.specs.within.Moved.{HaveOldRows, HaveNewRows, AreGrown, IsWritten, new_count};
+ghost use Rattle.el_migrate.specs.within.Moving.{AreHeads, IsMoved, HasOnlyRows, HasOldRows, HasOldFiles, new_rows};
+ghost use Rattle.el_migrate.specs.within.Moved.{HaveOldRows, HaveNewRows, AreGrown, IsMetaWritten, new_count};
 
 use crate::heads::no_heads;
 use crate::old_pages::OldPages;
@@ -63,7 +63,7 @@ fn move_plain<D: Disk, W: Watch>(
         → IsMoved t → t ≢ Table.Txs → t ≢ Table.Scripts
         → HasOldRows heads bs l t (count_at pages.now t) (D.seen disk.old (file_of FORMAT_1 t))
         → count_at pages.now t * old_size_of t ≤ length (D.seen disk.old (file_of FORMAT_1 t))
-        → OnOk result (HasRows t (D.seen disk.new (file_of FORMAT_2 t)) (new_rows buckets bs l t)
+        → OnOk result (HasOnlyRows t (D.seen disk.new (file_of FORMAT_2 t)) (new_rows buckets bs l t)
         (count_at pages.now t)) }
     ensures grown { D.tells → OnOk result (count_at pages.now t * size_of t
         ≡ length (D.seen disk.new (file_of FORMAT_2 t))) }
@@ -97,9 +97,9 @@ fn move_txs<D: Disk, W: Watch>(
         → HasOldRows heads bs l Table.Txs (count_at pages.now Table.Txs) (D.seen disk.old 2)
         → count_at pages.now Table.Txs * old_size_of Table.Txs ≤ length (D.seen disk.old 2)
         → AreHeads links.old []
-        → OnOk result (HasRows Table.Txs (D.seen disk.new 22) (new_rows (length links.old) bs l Table.Txs)
+        → OnOk result (HasOnlyRows Table.Txs (D.seen disk.new 22) (new_rows (length links.old) bs l Table.Txs)
         (count_at pages.now Table.Txs)
-        × HasRows Table.TxHeads (D.seen disk.new 23) (new_rows (length links.old) bs l Table.TxHeads)
+        × HasOnlyRows Table.TxHeads (D.seen disk.new 23) (new_rows (length links.old) bs l Table.TxHeads)
         (length links.old)) }
     ensures grown { D.tells → OnOk result
         ((count_at pages.now Table.Txs * size_of Table.Txs ≡ length (D.seen disk.new 22))
@@ -142,9 +142,10 @@ fn move_scripts<D: Disk, W: Watch>(
         → HasOldRows heads bs l Table.Scripts (count_at pages.now Table.Scripts) (D.seen disk.old 6)
         → count_at pages.now Table.Scripts * old_size_of Table.Scripts ≤ length (D.seen disk.old 6)
         → AreHeads links.old []
-        → OnOk result (HasRows Table.Scripts (D.seen disk.new 26)
+        → OnOk result (HasOnlyRows Table.Scripts (D.seen disk.new 26)
         (new_rows (length links.old) bs l Table.Scripts) (count_at pages.now Table.Scripts)
-        × HasRows Table.ScriptHeads (D.seen disk.new 27) (new_rows (length links.old) bs l Table.ScriptHeads)
+        × HasOnlyRows Table.ScriptHeads (D.seen disk.new 27)
+        (new_rows (length links.old) bs l Table.ScriptHeads)
         (length links.old)) }
     ensures grown { D.tells → OnOk result
         ((count_at pages.now Table.Scripts * size_of Table.Scripts ≡ length (D.seen disk.new 26))
@@ -255,7 +256,7 @@ fn close_files<D: Disk>(
     requires most { bits ≤ MAX_HEAD_BITS }
     requires no_meta { D.tells → D.seen disk.old 20 ≡ [] }
     requires no_redo { D.tells → D.seen disk.old 29 ≡ [] }
-    ensures written { D.tells → OnOk result (IsWritten magic bits pages.now (D.seen disk.new)) }
+    ensures written { D.tells → OnOk result (IsMetaWritten magic bits pages.now (D.seen disk.new)) }
     ensures durable { D.tells → OnOk result (AreOnDisk ⟦<D as Disk>⟧ 20 30 disk.new) }
     ensures others { D.tells → OnOk result ((f : ℕ) → f ≢ 20 → f ≢ 29
         → D.seen disk.new f ≡ D.seen disk.old f) }
@@ -290,7 +291,7 @@ pub(crate) fn write_new<D: Disk, W: Watch>(
         → HaveOldRows heads bs l pages.now (D.seen disk.old)
         → OnOk result (HaveNewRows bits bs l pages.now (D.seen disk.new)) }
     ensures grown { D.tells → OnOk result (AreGrown bits pages.now (D.seen disk.new)) }
-    ensures written { D.tells → OnOk result (IsWritten magic bits pages.now (D.seen disk.new)) }
+    ensures written { D.tells → OnOk result (IsMetaWritten magic bits pages.now (D.seen disk.new)) }
     ensures durable { D.tells → OnOk result (AreOnDisk ⟦<D as Disk>⟧ 20 30 disk.new) }
     ensures others { D.tells → (f : ℕ) → (f < 20) ⊎ (29 < f) → D.seen disk.new f ≡ D.seen disk.old f }
     ensures crash { D.tells → (files : Image) → EachNow ⟦<D as Disk>⟧ (HasOldFiles files) disk.old

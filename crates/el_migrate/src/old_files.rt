@@ -12,7 +12,7 @@ ghost use Rattle.el_pages.specs.declared.layout.TheConstants.{FORMAT_1};
 ghost use Rattle.el_pages.specs.Layouts.{file_of, size_in, limit_in};
 ghost use Rattle.el_pages.specs.Records.{meta_of};
 ghost use Rattle.el_recovery.specs.Checks.{Found, bad_index, word, count_told, IsBadCount, IsBadSize, sizes_in};
-ghost use Rattle.el_recovery.specs.within.Checking.{AreBytes};
+ghost use Rattle.el_recovery.specs.within.Checking.{AreSoManyBytes};
 ghost use Rattle.el_migrate.specs.OldChecks.{HasOldHeads, IsOldHead, IsBadOldHead, IsBadOldHeads, IsBadOldRow, IsBadOldFiles};
 ghost use Rattle.el_migrate.specs.OldIndexes.{old_head_bytes, HasOldCounts};
 ghost use Rattle.el_migrate.specs.declared.old_files.TheConstants.{OLD_BUCKETS};
@@ -30,7 +30,7 @@ pub const OLD_BUCKETS: u64 = 65536;
 fn word_at(meta: &[u8; 76], at: usize) -> u64
     requires { at + 4 ≤ 76 }
     ensures word { result ≡ word meta.now at }
-    ensures bytes { AreBytes meta.now 76 }
+    ensures bytes { AreSoManyBytes meta.now 76 }
 {
     let word = [meta[at], meta[at + 1], meta[at + 2], meta[at + 3]];
     u64::from(u32::from_le_bytes(word))
@@ -39,7 +39,7 @@ fn word_at(meta: &[u8; 76], at: usize) -> u64
 // The network's magic, as a number in four bytes.
 fn network_of(magic: &[u8; 4]) -> u64
     ensures number { result ≡ from_le_bytes w32 magic.now }
-    ensures bytes { AreBytes magic.now 4 }
+    ensures bytes { AreSoManyBytes magic.now 4 }
 {
     let [a, b, c, d] = *magic;
     u64::from(u32::from_le_bytes([a, b, c, d]))
@@ -66,7 +66,7 @@ fn count_in(meta: &[u8; 76], at: usize) -> u64
 // Whether the meta row begins with the letters, this format and this network's magic.
 fn check_head(meta: &[u8; 76], magic: [u8; 4]) -> Result<(), OpenFault>
     ensures ok { OnOk result (IsOldHead FORMAT_1 (from_le_bytes w32 magic) meta.now) }
-    ensures bytes { OnOk result (AreBytes meta.now 76 × AreBytes magic 4) }
+    ensures bytes { OnOk result (AreSoManyBytes meta.now 76 × AreSoManyBytes magic 4) }
     ensures bad { IfErr result (λ e. (found : Found) × (e ≡ bad_index found)
         × IsBadOldHead FORMAT_1 (from_le_bytes w32 magic) meta.now found) }
 {

@@ -6,13 +6,13 @@ ghost use Rattle.el_row_formats.specs.Tables.{Tables};
 ghost use Rattle.el_row_formats.specs.declared.table.Table.{Table};
 ghost use Rattle.el_rows.specs.Changes.{count_at};
 ghost use Rattle.el_redo.specs.declared.faults.OpenFault.TheVariants as fault;
-ghost use Rattle.el_redone.specs.Redone.{StandsFor};
+ghost use Rattle.el_redone.specs.Redone.{ImageStandsFor};
 ghost use Rattle.el_redone.specs.Steps.{Leaves, IsAtRest, IsAlike};
 ghost use Rattle.el_redone.specs.declared.steps.TheConstants.{ROOT};
 ghost use Rattle.el_pages.specs.declared.layout.TheConstants.{FORMAT_1};
 ghost use Rattle.el_pages.specs.Layouts.{limit_in};
 ghost use Rattle.el_pages.specs.Records.{Spells};
-ghost use Rattle.el_recovery.specs.Checks.{Found, bad_index, NoneWaits, length_told, IsBadBody};
+ghost use Rattle.el_recovery.specs.Checks.{Found, bad_index, NoRecordWaits, length_told, IsBadBody};
 ghost use Rattle.el_migrate.specs.OldChecks.{HasOldHeads, IsBadOldIndex};
 ghost use Rattle.el_migrate.specs.OldIndexes.{HasOldCounts, ShowsOld};
 
@@ -36,7 +36,7 @@ pub(crate) fn open_old_files<D: Disk>(
     ensures heads { IfOk result (λ counts. HasOldHeads (count_at counts)) }
     ensures limited { IfOk result (λ counts. (t : Table) → count_at counts t ≤ limit_in FORMAT_1 t) }
     ensures stands { D.tells → OnOk result
-        (StandsFor (Spells FORMAT_1) 0 9 (D.seen disk.new) (D.seen disk.old)) }
+        (ImageStandsFor (Spells FORMAT_1) 0 9 (D.seen disk.new) (D.seen disk.old)) }
     ensures bad { D.tells → IfErr result (λ e. (e ≡ fault.DiskFailed) ⊎ ((found : Found)
         × (e ≡ bad_index found)
         × IsBadOldIndex FORMAT_1 (from_le_bytes w32 magic) (D.seen disk.old) found)) }
@@ -54,7 +54,7 @@ pub(crate) fn open_old_files<D: Disk>(
     ensures root { D.tells → OnOk result (D.seen disk.new ROOT ≡ D.seen disk.old ROOT) }
     ensures calls { D.tells → 2 * D.calls disk.new
         ≤ 2 * D.calls disk.old + (273 + length_told (D.seen disk.old 9)) }
-    ensures quiet { D.tells → NoneWaits (D.seen disk.old 9) → D.calls disk.new ≤ D.calls disk.old + 26 }
+    ensures quiet { D.tells → NoRecordWaits (D.seen disk.old 9) → D.calls disk.new ≤ D.calls disk.old + 26 }
     ensures cause { CountsOnly (D.faults disk.old) (D.faults disk.new) fault.DiskFailed result }
 {
     begin(disk, Span { first: 0, redo: 9 })?;

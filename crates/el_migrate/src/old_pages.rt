@@ -9,7 +9,7 @@ ghost use Rattle.el_row_formats.specs.Tables.{Tables, row_at};
 ghost use Rattle.el_row_formats.specs.OldRowBytes.{old_size_of};
 ghost use Rattle.el_rows.specs.Changes.{count_at};
 ghost use Rattle.el_redo.specs.declared.faults.OpenFault.TheVariants as fault;
-ghost use Rattle.el_redone.specs.Redone.{StandsFor};
+ghost use Rattle.el_redone.specs.Redone.{ImageStandsFor};
 ghost use Rattle.el_redone.specs.Steps.{Leaves, IsAtRest, IsAlike};
 ghost use Rattle.el_redone.specs.declared.steps.TheConstants.{ROOT};
 ghost use Rattle.el_pages.specs.declared.layout.TheConstants.{FORMAT_1};
@@ -46,7 +46,7 @@ pub fn open_old<D: Disk>(disk: &mut D, magic: [u8; 4]) -> Result<OldPages, OpenF
     ensures heads { IfOk result (λ old. HasOldHeads (count_at old)) }
     ensures limited { IfOk result (λ old. (t : Table) → count_at old t ≤ limit_in FORMAT_1 t) }
     ensures stands { D.tells → OnOk result
-        (StandsFor (Spells FORMAT_1) 0 9 (D.seen disk.new) (D.seen disk.old)) }
+        (ImageStandsFor (Spells FORMAT_1) 0 9 (D.seen disk.new) (D.seen disk.old)) }
     ensures bad { D.tells → IfErr result (λ e. (e ≡ fault.DiskFailed) ⊎ ((found : Found)
         × (e ≡ bad_index found)
         × IsBadOldIndex FORMAT_1 (from_le_bytes w32 magic) (D.seen disk.old) found)) }

@@ -14,10 +14,10 @@ ghost use Rattle.el_schema.specs.Standing.{StandWith};
 ghost use Rattle.el_pages.specs.declared.layout.TheConstants.{FORMAT_1, FORMAT_2};
 ghost use Rattle.el_pages.specs.Indexes.{IsRooted, ShowsFor};
 ghost use Rattle.el_pages.specs.Stores.{disk_below, rows_of, bits_of, IsLive};
-ghost use Rattle.el_recovery.specs.Checks.{Found, bad_index, HasBits, HasHeads, IsIndex, IsBadBody, NoneWaits, length_told};
-ghost use Rattle.el_recovery.specs.Openings.{disk_in, opened};
-ghost use Rattle.el_migrate.specs.ImageChains.{ImageStands, StandsOld, StandsForOne, IsAnyIndex, IsNoIndex, IsLikeOne, IsBadAny, IsBeyond};
-ghost use Rattle.el_migrate.specs.within.Ready.{IsIndexWith, IsReady, IsRefused, KeepsAll};
+ghost use Rattle.el_recovery.specs.Checks.{Found, bad_index, HasBits, HasHeadOfEachBucket, IsIndex, IsBadBody, NoRecordWaits, length_told};
+ghost use Rattle.el_recovery.specs.Openings.{disk_in, opening_result};
+ghost use Rattle.el_migrate.specs.ImageChains.{ImageStands, StandsOld, StandsForOne, IsAnyIndex, IsNoIndex, IsLikeOne, IsBadAny, IsOtherFile};
+ghost use Rattle.el_migrate.specs.within.Ready.{IsIndexWith, IsReady, IsOpeningRefused, KeepsAll};
 ghost use Rattle.el_migrate.specs.within.Rooting.{HasNewFiles, HasBothFiles, IsOpenedOld};
 
 use crate::moving::write_new;
@@ -108,7 +108,7 @@ fn build<D: Disk, W: Watch>(
         → Leaves ⟦<D as Disk>⟧ (λ image. ImageStands magic image chain) disk.old disk.new }
     ensures later { D.tells → IsOpenedOld ⟦<D as Disk>⟧ magic pages.now disk.old
         → D.moment disk.old ≤ D.moment disk.new }
-    ensures others { D.tells → (f : ℕ) → IsBeyond f → D.seen disk.new f ≡ D.seen disk.old f }
+    ensures others { D.tells → (f : ℕ) → IsOtherFile f → D.seen disk.new f ≡ D.seen disk.old f }
     ensures only { IfErr result (λ e. (e ≡ fault.DiskFailed) ⊎ (e ≡ fault.Memory)) }
     ensures cause { CountsOnly (D.faults disk.old) (D.faults disk.new) fault.DiskFailed result }
 {
@@ -133,7 +133,7 @@ fn migrate<D: Disk, W: Watch>(
         → OnDisk ROOT (D.seen disk.old) (LeftNow D.moment D.left_since disk.old) }
     ensures ready { D.tells → OnOk result (IsReady ⟦<D as Disk>⟧ magic bits (D.seen disk.old) disk.new) }
     ensures refused { D.tells → IfErr result (λ e.
-        IsRefused magic (D.seen disk.old) (D.seen disk.new) e) }
+        IsOpeningRefused magic (D.seen disk.old) (D.seen disk.new) e) }
     ensures keeps { D.tells → KeepsAll ⟦<D as Disk>⟧ magic disk.old disk.new }
     ensures cause { CountsOnly (D.faults disk.old) (D.faults disk.new) fault.DiskFailed result }
 {
@@ -155,7 +155,7 @@ fn make_live<D: Disk, W: Watch>(
         → OnDisk ROOT (D.seen disk.old) (LeftNow D.moment D.left_since disk.old) }
     ensures ready { D.tells → OnOk result (IsReady ⟦<D as Disk>⟧ magic bits (D.seen disk.old) disk.new) }
     ensures refused { D.tells → IfErr result (λ e.
-        IsRefused magic (D.seen disk.old) (D.seen disk.new) e) }
+        IsOpeningRefused magic (D.seen disk.old) (D.seen disk.new) e) }
     ensures keeps { D.tells → KeepsAll ⟦<D as Disk>⟧ magic disk.old disk.new }
     ensures quiet { D.tells → IsRooted (D.seen disk.old) → D.calls disk.new ≤ D.calls disk.old + 1 }
     ensures cause { CountsOnly (D.faults disk.old) (D.faults disk.new) fault.DiskFailed result }
@@ -178,7 +178,7 @@ fn prepare<D: Disk, W: Watch>(
     requires most { bits ≤ MAX_HEAD_BITS }
     ensures ready { D.tells → OnOk result (IsReady ⟦<D as Disk>⟧ magic bits (D.seen disk.old) disk.new) }
     ensures refused { D.tells → IfErr result (λ e.
-        IsRefused magic (D.seen disk.old) (D.seen disk.new) e) }
+        IsOpeningRefused magic (D.seen disk.old) (D.seen disk.new) e) }
     ensures keeps { D.tells → KeepsAll ⟦<D as Disk>⟧ magic disk.old disk.new }
     ensures quiet { D.tells → IsRooted (D.seen disk.old) → D.calls disk.new ≤ D.calls disk.old + 52 }
     ensures cause { CountsOnly (D.faults disk.old) (D.faults disk.new) fault.DiskFailed result }
@@ -221,7 +221,7 @@ pub fn open_any<D: Disk, N: NetworkMagic, W: Watch>(
     // Each of its tables of heads has a row for each bucket, over any disk.
     ensures bits { IfOk result (λ store. HasBits (bits_of store)) }
     ensures heads { IfOk result (λ store.
-        HasHeads (bits_of store) (⟦<Pages<D, N> as el_rows::Rows>⟧.counts store)) }
+        HasHeadOfEachBucket (bits_of store) (⟦<Pages<D, N> as el_rows::Rows>⟧.counts store)) }
     // Where format 2 is live, its tables and the number of its buckets stay.
     ensures shows { D.tells → IsRooted (D.seen disk) → IfOk result (λ store.
         (index : IsIndex N.magic (D.seen disk) (rows_of store)) × (index.bits ≡ bits_of store)) }
@@ -264,16 +264,17 @@ pub fn open_any<D: Disk, N: NetworkMagic, W: Watch>(
         ⊎ ((f : ℕ) → D.seen (disk_in result) f ≡ D.seen disk f)) }
     // No file is written that is neither format's nor the root, and what stands in them stands beside its
     // rows.
-    ensures others { D.tells → (f : ℕ) → IsBeyond f → D.seen (disk_in result) f ≡ D.seen disk f }
-    ensures beside { D.tells → IfOk result (λ store. (f : ℕ) → IsBeyond f
+    ensures others { D.tells → (f : ℕ) → IsOtherFile f → D.seen (disk_in result) f ≡ D.seen disk f }
+    ensures beside { D.tells → IfOk result (λ store. (f : ℕ) → IsOtherFile f
         → ⟦<Pages<D, N> as el_rows::Rows>⟧.beside store f ≡ D.seen disk f) }
     // Where format 2 is live, and nothing waits, it makes few calls of the disk, and else at most one for
     // each two bytes of the body besides.
-    ensures quiet { D.tells → IsRooted (D.seen disk) → NoneWaits (D.seen disk 29)
+    ensures quiet { D.tells → IsRooted (D.seen disk) → NoRecordWaits (D.seen disk 29)
         → D.calls (disk_in result) ≤ D.calls disk + 78 }
     ensures calls { D.tells → IsRooted (D.seen disk) → 2 * D.calls (disk_in result)
         ≤ 2 * D.calls disk + (377 + length_told (D.seen disk 29)) }
-    ensures cause { CountsOnly (D.faults disk) (D.faults (disk_in result)) fault.DiskFailed (opened result) }
+    ensures cause { CountsOnly (D.faults disk) (D.faults (disk_in result)) fault.DiskFailed
+        (opening_result result) }
 {
     let mut disk = disk;
     match prepare(alloc, &mut disk, N::magic(), bits, watch) {

@@ -14,7 +14,7 @@ ghost use Rattle.el_schema.specs.Rows.{head_fields};
 ghost use Rattle.el_redone.specs.Steps.{EachNow, Leaves};
 ghost use Rattle.el_pages.specs.declared.layout.TheConstants.{FORMAT_1, FORMAT_2};
 ghost use Rattle.el_pages.specs.Layouts.{file_of};
-ghost use Rattle.el_migrate.specs.within.Moving.{AreHeads, IsMoved, HeadsOf, IsOldRow, new_rows, HasRows, HasOldRows, HasOldFiles};
+ghost use Rattle.el_migrate.specs.within.Moving.{AreHeads, IsMoved, HeadsOf, IsOldRow, new_rows, HasOnlyRows, HasOldRows, HasOldFiles};
 
 use crate::heads::link_of;
 use crate::rows::move_row;
@@ -70,9 +70,9 @@ fn write_run<D: Disk>(
     requires long { length bytes.now ≡ rows * size_of t }
     requires reach { D.tells → first * size_of t ≡ length (D.seen disk.old (file_of FORMAT_2 t)) }
     ensures rows { D.tells → (all : List (List ℕ))
-        → HasRows t (D.seen disk.old (file_of FORMAT_2 t)) all first
+        → HasOnlyRows t (D.seen disk.old (file_of FORMAT_2 t)) all first
         → ((j : ℕ) → j < rows → row_at (size_of t) bytes.now j ≡ get_or all (first + j) [])
-        → OnOk result (HasRows t (D.seen disk.new (file_of FORMAT_2 t)) all (first + rows)) }
+        → OnOk result (HasOnlyRows t (D.seen disk.new (file_of FORMAT_2 t)) all (first + rows)) }
     ensures grown { D.tells → OnOk result ((first + rows) * size_of t
         ≡ length (D.seen disk.new (file_of FORMAT_2 t))) }
     ensures others { D.tells → (f : ℕ) → f ≢ file_of FORMAT_2 t → D.seen disk.new f ≡ D.seen disk.old f }
@@ -107,9 +107,9 @@ fn move_run<D: Disk>(
         → HasOldRows counts bs l t n (D.seen disk.old (file_of FORMAT_1 t)) → first + rows ≤ n
         → n * old_size_of t ≤ length (D.seen disk.old (file_of FORMAT_1 t))
         → HeadsOf t l first links.old
-        → HasRows t (D.seen disk.old (file_of FORMAT_2 t)) (new_rows (length links.old) bs l t) first
+        → HasOnlyRows t (D.seen disk.old (file_of FORMAT_2 t)) (new_rows (length links.old) bs l t) first
         → OnOk result (HeadsOf t l (first + rows) links.new
-        × HasRows t (D.seen disk.new (file_of FORMAT_2 t)) (new_rows (length links.old) bs l t)
+        × HasOnlyRows t (D.seen disk.new (file_of FORMAT_2 t)) (new_rows (length links.old) bs l t)
         (first + rows)) }
     ensures grown { D.tells → OnOk result ((first + rows) * size_of t
         ≡ length (D.seen disk.new (file_of FORMAT_2 t))) }
@@ -149,7 +149,7 @@ pub(crate) fn move_table<D: Disk, W: Watch>(
         → HasOldRows counts bs l t count (D.seen disk.old (file_of FORMAT_1 t))
         → count * old_size_of t ≤ length (D.seen disk.old (file_of FORMAT_1 t)) → HeadsOf t l 0 links.old
         → OnOk result (HeadsOf t l count links.new
-        × HasRows t (D.seen disk.new (file_of FORMAT_2 t)) (new_rows (length links.old) bs l t) count) }
+        × HasOnlyRows t (D.seen disk.new (file_of FORMAT_2 t)) (new_rows (length links.old) bs l t) count) }
     ensures grown { D.tells → OnOk result (count * size_of t
         ≡ length (D.seen disk.new (file_of FORMAT_2 t))) }
     ensures others { D.tells → (f : ℕ) → f ≢ file_of FORMAT_2 t → D.seen disk.new f ≡ D.seen disk.old f }
@@ -199,7 +199,7 @@ pub(crate) fn write_heads<D: Disk>(
     requires empty { D.tells → D.seen disk.old (file_of FORMAT_2 t) ≡ [] }
     ensures long { length new.new ≡ length new.old }
     ensures rows { D.tells → (hashes : List hash.Hash32) → AreHeads links.now hashes
-        → OnOk result (HasRows t (D.seen disk.new (file_of FORMAT_2 t))
+        → OnOk result (HasOnlyRows t (D.seen disk.new (file_of FORMAT_2 t))
         (map (λ link. head_row_bytes (head_fields link))
         (heads (length links.now) (λ h. h) hashes)) (length links.now)) }
     ensures grown { D.tells → OnOk result (length links.now * 8

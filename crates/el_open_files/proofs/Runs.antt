@@ -2,7 +2,7 @@
 use Rattle.std.proofs.Common.{inl, inr, ⊎_elim, ℕ, ◌<◌, ◌≤◌, List, refl, ◌∙◌, ap, arith}
 use Rattle.el_outside.specs.Disk.{Image, NothingNew}
 use Rattle.el_outside.specs.Moments.{LeftNow, Passes}
-use Rattle.el_open_files.specs.Calls.{Lasts, Idle, Changes, Settles}
+use Rattle.el_open_files.specs.Calls.{Lasts, Idle, ChangesFile, Settles}
 
 module _ {D : Type 0} (seen : D → Image) (moment : D → ℕ) (left_since : D → ℕ → Image → Type 0) (is_named : D → ℕ → Type 0) where
   -- what may be left now might have been left since any moment before
@@ -56,7 +56,7 @@ module _ {D : Type 0} (seen : D → Image) (moment : D → ℕ) (left_since : D 
 
   -- a call that did nothing to the file
   pub changes_none : (file : ℕ) (step : List ℕ → List ℕ → Type 0) (a b : D) → ((xs : List ℕ) → step xs xs)
-      → Idle seen moment left_since is_named a b → Changes seen moment left_since is_named file step a b
+      → Idle seen moment left_since is_named a b → ChangesFile seen moment left_since is_named file step a b
   changes_none file step a b nothing x = record {
     others = λ f ne. ap (λ (all : Image). all f) x.same;
     crash = λ c left. (c, x.crash c left, record { here = nothing (c file); others = λ f ne. refl });
@@ -65,8 +65,8 @@ module _ {D : Type 0} (seen : D → Image) (moment : D → ℕ) (left_since : D 
 
   -- the file changed after calls that did nothing
   pub changes_after : (file : ℕ) (step : List ℕ → List ℕ → Type 0) (a b d : D) → Earlier a
-      → Idle seen moment left_since is_named a b → Changes seen moment left_since is_named file step b d
-      → Changes seen moment left_since is_named file step a d
+      → Idle seen moment left_since is_named a b → ChangesFile seen moment left_since is_named file step b d
+      → ChangesFile seen moment left_since is_named file step a d
   changes_after file step a b d earlier x y = record {
     others = λ f ne. y.others f ne ∙ ap (λ (all : Image). all f) x.same;
     crash = λ c left. let from = y.crash c left in (from.0, x.crash from.0 from.1, from.2);
@@ -77,8 +77,8 @@ module _ {D : Type 0} (seen : D → Image) (moment : D → ℕ) (left_since : D 
   pub changes_more : (file : ℕ) (first second step : List ℕ → List ℕ → Type 0) (a b d : D)
       → ((xs ys zs : List ℕ) → first xs ys → second ys zs → step xs zs)
       → NothingNew (LeftNow moment left_since d) (LeftNow moment left_since b)
-      → Changes seen moment left_since is_named file first a b → Changes seen moment left_since is_named file second b d
-      → Changes seen moment left_since is_named file step a d
+      → ChangesFile seen moment left_since is_named file first a b → ChangesFile seen moment left_since is_named file second b d
+      → ChangesFile seen moment left_since is_named file step a d
   changes_more file first second step a b d makes still x y = record {
     others = λ f ne. y.others f ne ∙ x.others f ne;
     crash = λ c left.

@@ -23,7 +23,7 @@ pub record Idle {D : Type 0} (seen : D → Image) (moment : D → ℕ) (left_sin
   pub lasts : Lasts moment left_since is_named old new
 
 -- no other file changes, and what a crash leaves it might have left before, after this step of the one
-pub record Changes {D : Type 0} (seen : D → Image) (moment : D → ℕ) (left_since : D → ℕ → Image → Type 0)
+pub record ChangesFile {D : Type 0} (seen : D → Image) (moment : D → ℕ) (left_since : D → ℕ → Image → Type 0)
     (is_named : D → ℕ → Type 0) (file : ℕ) (step : List ℕ → List ℕ → Type 0) (old new : D) : Type 0 where
   pub others : (f : ℕ) → f ≢ file → seen new f ≡ seen old f
   pub crash : Follows (OnFile file step) (LeftNow moment left_since old) (LeftNow moment left_since new)

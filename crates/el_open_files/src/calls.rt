@@ -2,7 +2,7 @@
 ghost use Rattle.std.specs.Prelude.{◌≡◌, ◌≤◌, ◌-◌, length, take, drop, min, IfOk, OnOk};
 ghost use Rattle.el_outside.specs.Disk.{over, Torn, Cut, OnDisk};
 ghost use Rattle.el_outside.specs.Moments.{LeftNow};
-ghost use Rattle.el_open_files.specs.Calls.{Idle, Changes, Settles};
+ghost use Rattle.el_open_files.specs.Calls.{Idle, ChangesFile, Settles};
 ghost use Rattle.el_open_files.specs.OpenFiles.{Held, StayOpen};
 
 use crate::finding::{file_at, make_open};
@@ -69,7 +69,7 @@ pub(crate) fn write_to<F: OpenFiles>(
     ensures stay { StayOpen places.old places.new }
     ensures written { F.tells → OnOk result
         (F.seen files.new file ≡ over (F.seen files.old file) at bytes.now) }
-    ensures changes { F.tells → Changes F.seen F.moment F.left_since F.is_named
+    ensures changes { F.tells → ChangesFile F.seen F.moment F.left_since F.is_named
         file (Torn at (length bytes.now)) files.old files.new }
 {
     make_open(files, places, file, true)?;
@@ -91,7 +91,7 @@ pub(crate) fn cut_to<F: OpenFiles>(
     ensures held { Held F.tells F.is_file F.is_named files.new places.new }
     ensures stay { StayOpen places.old places.new }
     ensures cut { F.tells → OnOk result (F.seen files.new file ≡ take len (F.seen files.old file)) }
-    ensures changes { F.tells → Changes F.seen F.moment F.left_since F.is_named
+    ensures changes { F.tells → ChangesFile F.seen F.moment F.left_since F.is_named
         file (Cut len) files.old files.new }
 {
     make_open(files, places, file, false)?;

@@ -1,7 +1,7 @@
 // Reads and writes that are gone on with until all is done.
 ghost use Rattle.std.specs.Prelude.{◌≡◌, ◌≤◌, ◌-◌, ℕ, length, min, IfOk, OnOk};
 ghost use Rattle.el_outside.specs.Disk.{over, Torn};
-ghost use Rattle.el_open_files.specs.Calls.{IsFront, Idle, Changes};
+ghost use Rattle.el_open_files.specs.Calls.{IsFront, Idle, ChangesFile};
 
 use crate::open_files::OpenFiles;
 use std::io;
@@ -47,7 +47,8 @@ pub(crate) fn write_all<F: OpenFiles>(
     ensures written { F.tells → (f : ℕ) → F.is_file file.now f → at ≤ length (F.seen files.old f)
         → OnOk result (F.seen files.new f ≡ over (F.seen files.old f) at bytes.now) }
     ensures changes { F.tells → (f : ℕ) → F.is_file file.now f → at ≤ length (F.seen files.old f)
-        → Changes F.seen F.moment F.left_since F.is_named f (Torn at (length bytes.now)) files.old files.new }
+        → ChangesFile F.seen F.moment F.left_since F.is_named f (Torn at (length bytes.now)) files.old
+        files.new }
 {
     let mut done = 0usize;
     for _ in 0..u64::MAX {

@@ -3,7 +3,7 @@ ghost use Rattle.std.specs.Prelude.{◌≡◌, ◌⊎◌, ◌<◌, ◌≤◌, �
 ghost use Rattle.std.specs.IoError.{error_kind};
 ghost use Rattle.el_outside.specs.Disk.{over, Torn, Cut, NothingNew, OnDisk};
 ghost use Rattle.el_outside.specs.Moments.{LeftNow};
-ghost use Rattle.el_open_files.specs.Calls.{IsFront, Idle, Changes, Settles};
+ghost use Rattle.el_open_files.specs.Calls.{IsFront, Idle, ChangesFile, Settles};
 
 use std::io;
 use std::io::ErrorKind;
@@ -107,7 +107,7 @@ pub trait OpenFiles {
         ensures interrupted { tells → IfErr result (λ e.
             error_kind e ≡ ErrorKind.Interrupted → seen self.new ≡ seen self.old) }
         ensures changes { tells → (f : ℕ) → is_file file.now f → at ≤ length (seen self.old f)
-            → Changes seen moment left_since is_named f (Torn at (length bytes.now)) self.old self.new }
+            → ChangesFile seen moment left_since is_named f (Torn at (length bytes.now)) self.old self.new }
         ensures still { tells → NothingNew
             (LeftNow moment left_since self.new) (LeftNow moment left_since self.old) };
 
@@ -117,7 +117,7 @@ pub trait OpenFiles {
         ensures cut { tells → (f : ℕ) → is_file file.now f → len ≤ length (seen self.old f)
             → OnOk result (seen self.new f ≡ take len (seen self.old f)) }
         ensures changes { tells → (f : ℕ) → is_file file.now f → len ≤ length (seen self.old f)
-            → Changes seen moment left_since is_named f (Cut len) self.old self.new };
+            → ChangesFile seen moment left_since is_named f (Cut len) self.old self.new };
 
     /// After it, a crash leaves of a file whose name is on the disk what a read gives. A sync that fails may
     /// have reached the disk in part.

@@ -9,7 +9,7 @@ use Rattle.std.proofs.Math.Bool.{or-false}
 use Rattle.std.proofs.lemmas.List.Folds.{list_any-append}
 use Rattle.el_outside.specs.Disk.{Image, over, Torn, Cut, OnFile, Follows, NothingNew, OnDisk}
 use Rattle.el_outside.specs.Moments.{Elapses}
-use Rattle.el_outside.specs.Images.{Kept, is_written, IsImage, synced, written, shortened, at_file, Leaves, LeftSince}
+use Rattle.el_outside.specs.Images.{Kept, is_written, IsImage, synced, written, shortened, at_file, LeavesImages, LeftSince}
 use Rattle.el_outside.proofs.Bytes.{length-over, over_before, over_after}
 
 pub at_here : {T : Type 0} (all : ℕ → T) (file : ℕ) (here : T) → at_file all file here file ≡ here
@@ -130,7 +130,7 @@ before_cut kept n c sizes image =
 
 -- one file of an image put in the place of another
 pub follows_by : (all : ℕ → Kept) (file : ℕ) (kept : Kept) (step : List ℕ → List ℕ → Type 0) → ((c : List ℕ) → IsImage kept c → (d : List ℕ) × IsImage (all file) d × step d c)
-    → Follows (OnFile file step) (Leaves all) (Leaves (at_file all file kept))
+    → Follows (OnFile file step) (LeavesImages all) (LeavesImages (at_file all file kept))
 follows_by all file kept step back c left =
     let from = back (c file) (subst (λ k. IsImage k (c file)) (at_here all file kept) (left file)) in (
       at_file c file from.0,
@@ -152,13 +152,13 @@ pub all_synced : (bytes : List ℕ) → IsImage (synced bytes) bytes
 all_synced bytes = record { no_shorter = omega arith; no_longer = omega arith; same = λ i lt in_bytes out. refl }
 
 -- after a sync the file is what it was, and each image is one from before
-pub sync_keeps : (all : ℕ → Kept) (file : ℕ) (bytes : List ℕ) → IsImage (all file) bytes → NothingNew (Leaves all) (Leaves (at_file all file (synced bytes)))
+pub sync_keeps : (all : ℕ → Kept) (file : ℕ) (bytes : List ℕ) → IsImage (all file) bytes → NothingNew (LeavesImages all) (LeavesImages (at_file all file (synced bytes)))
 sync_keeps all file bytes image c left f = ⊎_elim
     (λ (is : f ≡ file). subst (λ g. IsImage (all g) (c g)) (sym is) (subst (λ (b : List ℕ). IsImage (all file) b) (sym (is_synced bytes (c file) (subst (λ k. IsImage k (c file)) (at_here all file (synced bytes)) (left file)))) image))
     (λ ne. subst (λ k. IsImage k (c f)) (at_other all file (synced bytes) f ne) (left f))
     (cases_eq f file)
 
-pub sync_durable : (all : ℕ → Kept) (file : ℕ) (seen : Image) → OnDisk file seen (Leaves (at_file all file (synced (seen file))))
+pub sync_durable : (all : ℕ → Kept) (file : ℕ) (seen : Image) → OnDisk file seen (LeavesImages (at_file all file (synced (seen file))))
 sync_durable all file seen c left = is_synced (seen file) (c file) (subst (λ k. IsImage k (c file)) (at_here all file (synced (seen file))) (left file))
 
 -- what a read gives stays an image
@@ -203,17 +203,17 @@ since_earlier now (before ∷ past) t u c le (inl here) = inl here
 since_earlier now (before ∷ past) t u c le (inr older) = inr (omega (arith, le, older.0), since_earlier before past t u c le older.1)
 
 -- now is the last moment
-pub left_now : (now : ℕ → Kept) (past : List (ℕ → Kept)) (c : Image) → Leaves now c → LeftSince now past (length past) c
+pub left_now : (now : ℕ → Kept) (past : List (ℕ → Kept)) (c : Image) → LeavesImages now c → LeftSince now past (length past) c
 left_now now [] c left = left
 left_now now (before ∷ past) c left = inl left
 
-pub only_now : (now : ℕ → Kept) (past : List (ℕ → Kept)) (c : Image) → LeftSince now past (length past) c → Leaves now c
+pub only_now : (now : ℕ → Kept) (past : List (ℕ → Kept)) (c : Image) → LeftSince now past (length past) c → LeavesImages now c
 only_now now [] c left = left
 only_now now (before ∷ past) c (inl left) = left
 only_now now (before ∷ past) c (inr older) = absurd (omega (arith, older.0))
 
 -- one call more
-pub elapses : (old new : ℕ → Kept) (past : List (ℕ → Kept)) → Elapses (length past) (length (old ∷ past)) (LeftSince old past) (LeftSince new (old ∷ past)) (Leaves new)
+pub elapses : (old new : ℕ → Kept) (past : List (ℕ → Kept)) → Elapses (length past) (length (old ∷ past)) (LeftSince old past) (LeftSince new (old ∷ past)) (LeavesImages new)
 elapses old new past = record {
   later = omega arith;
   nothing_else = λ t c le left. ⊎_elim (λ now. inr now) (λ older. inl older.1) left;
@@ -222,19 +222,19 @@ elapses old new past = record {
 
 -- a write and a cut of the model
 pub write_follows : (all : ℕ → Kept) (file at n : ℕ) (seen : List ℕ) → IsImage (all file) seen → at ≤ length seen
-    → Follows (OnFile file (Torn at n)) (Leaves all) (Leaves (at_file all file (written at n (all file))))
+    → Follows (OnFile file (Torn at n)) (LeavesImages all) (LeavesImages (at_file all file (written at n (all file))))
 write_follows all file at n seen image le =
     follows_by all file (written at n (all file)) (Torn at n)
     (λ c left. before_write (all file) at n c (omega (arith, le, image.no_longer)) (omega (arith, image.no_shorter, image.no_longer)) left)
 
 pub cut_follows : (all : ℕ → Kept) (file n : ℕ) (seen : List ℕ) → IsImage (all file) seen
-    → Follows (OnFile file (Cut n)) (Leaves all) (Leaves (at_file all file (shortened n (all file))))
+    → Follows (OnFile file (Cut n)) (LeavesImages all) (LeavesImages (at_file all file (shortened n (all file))))
 cut_follows all file n seen image =
     follows_by all file (shortened n (all file)) (Cut n)
     (λ c left. before_cut (all file) n c (omega (arith, image.no_shorter, image.no_longer)) left)
 
 -- files fail independently
-pub mixed : (all : ℕ → Kept) (c : Image) (file : ℕ) (b : List ℕ) → Leaves all c → IsImage (all file) b → Leaves all (at_file c file b)
+pub mixed : (all : ℕ → Kept) (c : Image) (file : ℕ) (b : List ℕ) → LeavesImages all c → IsImage (all file) b → LeavesImages all (at_file c file b)
 mixed all c file b left image f = ⊎_elim
     (λ (is : f ≡ file). subst (λ g. IsImage (all g) (at_file c file b g)) (sym is) (subst (λ (x : List ℕ). IsImage (all file) x) (sym (at_here c file b)) image))
     (λ ne. subst (λ (x : List ℕ). IsImage (all f) x) (sym (at_other c file b f ne)) (left f))

@@ -44,11 +44,11 @@ abbrev pub at_file : {T : Type 0} → (ℕ → T) → ℕ → T → ℕ → T
 at_file all file here f = if f == file then here else all f
 
 -- An image of all files has an image of each. Files fail independently: nothing ties one to another.
-abbrev pub Leaves : (ℕ → Kept) → Image → Type 0
-Leaves kept c = (f : ℕ) → IsImage (kept f) (c f)
+abbrev pub LeavesImages : (ℕ → Kept) → Image → Type 0
+LeavesImages kept c = (f : ℕ) → IsImage (kept f) (c f)
 
 -- What a crash since the moment t might have left, where this is known of the files now, and that was known
 -- at the moments before, the last first. The first moment is 0.
 abbrev pub LeftSince : (ℕ → Kept) → List (ℕ → Kept) → ℕ → Image → Type 0
-LeftSince now [] t c = Leaves now c
-LeftSince now (before ∷ past) t c = Leaves now c ⊎ ((t ≤ length past) × LeftSince before past t c)
+LeftSince now [] t c = LeavesImages now c
+LeftSince now (before ∷ past) t c = LeavesImages now c ⊎ ((t ≤ length past) × LeftSince before past t c)

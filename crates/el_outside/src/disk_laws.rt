@@ -1,7 +1,7 @@
 // What holds of the model of a disk, sentence by sentence.
 ghost use Rattle.std.specs.Prelude.{◌≡◌, ◌⊎◌, ◌↔◌, ℕ, ◌<◌, ◌≤◌, ◌+◌, List, [], ◌∷◌, length, take, get_or, true, false};
 ghost use Rattle.el_outside.specs.Disk.{Image, over, Torn, Cut, OnFile, Follows, NothingNew, OnDisk};
-ghost use Rattle.el_outside.specs.Images.{Kept, is_written, IsImage, synced, written, shortened, at_file, Leaves, LeftSince};
+ghost use Rattle.el_outside.specs.Images.{Kept, is_written, IsImage, synced, written, shortened, at_file, LeavesImages, LeftSince};
 ghost use Rattle.el_outside.specs.Moments.{Elapses};
 
 /// The disk as it reads is one of its images: after a sync; after a write of which any front happened, or
@@ -22,9 +22,9 @@ pub fn reads_are_images()
 pub fn syncs_settle()
     ensures only { (bytes c : List ℕ) → IsImage (synced bytes) c → c ≡ bytes }
     ensures on_disk { (kept : ℕ → Kept) (file : ℕ) (seen : Image)
-        → OnDisk file seen (Leaves (at_file kept file (synced (seen file)))) }
+        → OnDisk file seen (LeavesImages (at_file kept file (synced (seen file)))) }
     ensures nothing_new { (kept : ℕ → Kept) (file : ℕ) (seen : List ℕ) → IsImage (kept file) seen
-        → NothingNew (Leaves kept) (Leaves (at_file kept file (synced seen))) }
+        → NothingNew (LeavesImages kept) (LeavesImages (at_file kept file (synced seen))) }
 {}
 
 /// Each range that was written since the last sync, once or twice, by a write that failed or didn't, may hold
@@ -59,8 +59,9 @@ pub fn other_bytes_stay()
 
 /// Files fail independently: any image of one file, with any images of the others, is an image.
 pub fn files_fail_independently()
-    ensures { (kept : ℕ → Kept) (c : Image) (file : ℕ) (b : List ℕ) → Leaves kept c → IsImage (kept file) b
-        → Leaves kept (at_file c file b) }
+    ensures { (kept : ℕ → Kept) (c : Image) (file : ℕ) (b : List ℕ) → LeavesImages kept c
+        → IsImage (kept file) b
+        → LeavesImages kept (at_file c file b) }
 {}
 
 /// The clauses of a disk ask nothing that the model doesn't give: each of its images after a write or a cut
@@ -68,10 +69,11 @@ pub fn files_fail_independently()
 pub fn model_keeps_the_clauses()
     ensures write { (kept : ℕ → Kept) (file at n : ℕ) (seen : List ℕ)
         → IsImage (kept file) seen → at ≤ length seen
-        → Follows (OnFile file (Torn at n)) (Leaves kept)
-        (Leaves (at_file kept file (written at n (kept file)))) }
+        → Follows (OnFile file (Torn at n)) (LeavesImages kept)
+        (LeavesImages (at_file kept file (written at n (kept file)))) }
     ensures cut { (kept : ℕ → Kept) (file n : ℕ) (seen : List ℕ) → IsImage (kept file) seen
-        → Follows (OnFile file (Cut n)) (Leaves kept) (Leaves (at_file kept file (shortened n (kept file)))) }
+        → Follows (OnFile file (Cut n)) (LeavesImages kept)
+        (LeavesImages (at_file kept file (shortened n (kept file)))) }
 {}
 
 /// A crash since a moment might have left what it might have left by a call, and what it may leave after it,
@@ -79,7 +81,7 @@ pub fn model_keeps_the_clauses()
 pub fn moments_add_up()
     ensures { (before now : ℕ → Kept) (past : List (ℕ → Kept))
         → Elapses (length past) (length (before ∷ past))
-        (LeftSince before past) (LeftSince now (before ∷ past)) (Leaves now) }
+        (LeftSince before past) (LeftSince now (before ∷ past)) (LeavesImages now) }
 {}
 
 /// A life starts from one of the images that the life before may leave at its end. What it then may leave

@@ -7,7 +7,7 @@ use Rattle.lru.specs.LruCache.{LruCache, lru_cache, promoted, put_entries}
 use Rattle.el_outside.specs.Disk.{over}
 use Rattle.el_row_formats.specs.declared.table.Table.{Table}
 use Rattle.el_row_formats.specs.Tables.{Tables, size_of, row_at}
-use Rattle.el_page_cache.specs.Pages.{KeptPages, rows_in_page, page_of, place_of, row_of, page_key, page_in, HasRows, Agrees, IsWrittenTo, IsWritten}
+use Rattle.el_page_cache.specs.Pages.{KeptPages, rows_in_page, page_of, place_of, row_number, page_key, page_in, HasRows, Agrees, IsWrittenTo, ArePagesWritten}
 use Rattle.el_page_cache.proofs.Rows.{rows_over_here, rows_over_other, row_drop}
 use Rattle.el_page_cache.proofs.Places.{at_place, place_within, same_page, one_key, row_fits, rows_fit}
 use Rattle.el_page_cache.proofs.Lookups.{lookup-promoted, taken, lookup-put, set_here, set_elsewhere}
@@ -67,7 +67,7 @@ module _ (pages : KeptPages) (lists : Tables) (counts : Table → ℕ) (agrees :
       ∙ ap (λ r. get_or (lists t) r []) (at_place t i)
 
 -- no row is written
-pub written_none : (pages : KeptPages) (t : Table) (first : ℕ) (bytes : List ℕ) → IsWritten pages pages t first 0 bytes
+pub written_none : (pages : KeptPages) (t : Table) (first : ℕ) (bytes : List ℕ) → ArePagesWritten pages pages t first 0 bytes
 written_none pages t first bytes u n page there = (
   page,
   there,
@@ -83,14 +83,14 @@ module _ (pages : KeptPages) (t : Table) (i rows : ℕ) (bytes : List ℕ) (few 
   beside : (u : Table) (n : ℕ) (page : List ℕ) → page_key u n ≢ page_key t (page_of t i) → IsWrittenTo t i rows bytes u n page page
   beside u n page ne = record {
     written = λ place within is_in.
-        let low : i ≤ row_of t n place = subst (λ (v : Table). i ≤ row_of v n place) is_in.0 is_in.1 in
-        let high : row_of t n place < i + rows = subst (λ (v : Table). row_of v n place < i + rows) is_in.0 is_in.2 in
+        let low : i ≤ row_number t n place = subst (λ (v : Table). i ≤ row_number v n place) is_in.0 is_in.1 in
+        let high : row_number t n place < i + rows = subst (λ (v : Table). row_number v n place < i + rows) is_in.0 is_in.2 in
         let short : place < rows_in_page t = subst (λ (v : Table). place < rows_in_page v) is_in.0 within in
         absurd (ne (ap (λ (v : Table). page_key v n) is_in.0 ∙ ap (λ m. page_key t m) (same_page t n place i rows short few low high)));
     others = λ place within not_in. refl;
   }
 
-  pub written_nowhere : page_in pages t (page_of t i) ≡ None → IsWritten pages pages t i rows bytes
+  pub written_nowhere : page_in pages t (page_of t i) ≡ None → ArePagesWritten pages pages t i rows bytes
   written_nowhere none u n page there = (
     page,
     there,
@@ -117,7 +117,7 @@ module _ (pages : KeptPages) (t : Table) (i rows : ℕ) (bytes : List ℕ) (few 
               let is : place ≡ place_of t i + d = omega (arith, start, is_in.1) in
               ap (λ p. row_at (size_of t) now p) is
               ∙ rows_over_here (size_of t) was bytes (place_of t i) rows d begins long (omega (arith, start, is_in.1, is_in.2))
-              ∙ ap (λ p. row_at (size_of t) bytes p) (let e : d ≡ row_of t (page_of t i) place - i = omega (arith, start, is_in.1) in e);
+              ∙ ap (λ p. row_at (size_of t) bytes p) (let e : d ≡ row_number t (page_of t i) place - i = omega (arith, start, is_in.1) in e);
           others = λ place within not_in.
               rows_over_other (size_of t) was bytes (place_of t i) rows place
               (⊎_elim
@@ -130,7 +130,7 @@ module _ (pages : KeptPages) (t : Table) (i rows : ℕ) (bytes : List ℕ) (few 
               (omega (arith, row_fits t place within, whole)) begins long;
         }
 
-    pub written_here : IsWritten pages (set_value (nat_eq (page_key t (page_of t i))) pages now) t i rows bytes
+    pub written_here : ArePagesWritten pages (set_value (nat_eq (page_key t (page_of t i))) pages now) t i rows bytes
     written_here u n page there = ⊎_elim
         (λ (same : page_key u n ≡ page_key t (page_of t i)).
         let is = one_key u t n (page_of t i) same in
@@ -150,28 +150,28 @@ module _ (pages : KeptPages) (t : Table) (i rows : ℕ) (bytes : List ℕ) (few 
 pub written_page : (pages new : KeptPages) (t : Table) (i rows : ℕ) (bytes : List ℕ) → place_of t i + rows ≤ rows_in_page t → length bytes ≡ rows * size_of t
     → ((was : List ℕ) → page_in pages t (page_of t i) ≡ Some was → new ≡ set_value (nat_eq (page_key t (page_of t i))) pages (over was (place_of t i * size_of t) bytes))
     → ((was : List ℕ) → page_in pages t (page_of t i) ≡ Some was → length was ≡ 4096)
-    → (page_in pages t (page_of t i) ≡ None → new ≡ pages) → IsWritten pages new t i rows bytes
+    → (page_in pages t (page_of t i) ≡ None → new ≡ pages) → ArePagesWritten pages new t i rows bytes
 written_page pages new t i rows bytes few long kept whole none = ⊎_elim
-    (λ missing. subst (λ (p : KeptPages). IsWritten pages p t i rows bytes) (sym (none missing)) (written_nowhere pages t i rows bytes few long missing))
-    (λ some. subst (λ (p : KeptPages). IsWritten pages p t i rows bytes) (sym (kept some.0 some.1)) (written_here pages t i rows bytes few long some.0 some.1 (whole some.0 some.1)))
+    (λ missing. subst (λ (p : KeptPages). ArePagesWritten pages p t i rows bytes) (sym (none missing)) (written_nowhere pages t i rows bytes few long missing))
+    (λ some. subst (λ (p : KeptPages). ArePagesWritten pages p t i rows bytes) (sym (kept some.0 some.1)) (written_here pages t i rows bytes few long some.0 some.1 (whole some.0 some.1)))
     (none_or_some (page_in pages t (page_of t i)))
 
 -- only the rows count that are written
 pub written_same : (a b : KeptPages) (t : Table) (i rows : ℕ) (bytes more : List ℕ) → ((j : ℕ) → j < rows → row_at (size_of t) more j ≡ row_at (size_of t) bytes j)
-    → IsWritten a b t i rows bytes → IsWritten a b t i rows more
+    → ArePagesWritten a b t i rows bytes → ArePagesWritten a b t i rows more
 written_same a b t i rows bytes more same written u n page there =
     let old = written u n page there in (
       old.0,
       old.1,
       record {
-        written = λ place within is_in. old.2.written place within is_in ∙ sym (same (row_of u n place - i) (omega (arith, is_in.1, is_in.2)));
+        written = λ place within is_in. old.2.written place within is_in ∙ sym (same (row_number u n place - i) (omega (arith, is_in.1, is_in.2)));
         others = old.2.others;
       },
     )
 
 -- more rows are written after some
-pub written_more : (a b c : KeptPages) (t : Table) (first done more : ℕ) (bytes : List ℕ) → IsWritten a b t first done bytes → IsWritten b c t (first + done) more (drop (done * size_of t) bytes)
-    → IsWritten a c t first (done + more) bytes
+pub written_more : (a b c : KeptPages) (t : Table) (first done more : ℕ) (bytes : List ℕ) → ArePagesWritten a b t first done bytes → ArePagesWritten b c t (first + done) more (drop (done * size_of t) bytes)
+    → ArePagesWritten a c t first (done + more) bytes
 written_more a b c t first done more bytes one two u n page there =
     let mid = two u n page there in
     let old = one u n mid.0 mid.1 in (
@@ -179,15 +179,15 @@ written_more a b c t first done more bytes one two u n page there =
       old.1,
       record {
         written = λ place within is_in. ⊎_elim
-            (λ (lt : row_of u n place < first + done).
+            (λ (lt : row_number u n place < first + done).
             mid.2.others place within (λ in_two. omega (arith, in_two.1, lt))
             ∙ old.2.written place within (is_in.0, is_in.1, lt))
-            (λ (ge : first + done ≤ row_of u n place).
-            let r = row_of u n place in
+            (λ (ge : first + done ≤ row_number u n place).
+            let r = row_number u n place in
             mid.2.written place within (is_in.0, ge, omega (arith, is_in.2))
             ∙ row_drop (size_of t) bytes done (r - (first + done))
             ∙ ap (λ j. row_at (size_of t) bytes j) (let e : done + (r - (first + done)) ≡ r - first = omega (arith, ge) in e))
-            (cases_lt (row_of u n place) (first + done));
+            (cases_lt (row_number u n place) (first + done));
         others = λ place within not_in.
             mid.2.others place within (λ in_two. not_in (in_two.0, omega (arith, in_two.1), omega (arith, in_two.2)))
             ∙ old.2.others place within (λ in_one. not_in (in_one.0, in_one.1, omega (arith, in_one.2)));

@@ -6,7 +6,7 @@ use Rattle.el_row_formats.specs.declared.table.Table.{Table}
 use Rattle.el_row_formats.specs.declared.table.Table.TheVariants as table
 use Rattle.el_row_formats.specs.Tables.{size_of}
 use Rattle.el_row_formats.proofs.Keys.{same_index, index_within}
-use Rattle.el_page_cache.specs.Pages.{rows_in_page, page_of, place_of, row_of, page_key}
+use Rattle.el_page_cache.specs.Pages.{rows_in_page, page_of, place_of, row_number, page_key}
 
 pub some_rows : (t : Table) → 0 < rows_in_page t
 unfolding rows_in_page
@@ -31,7 +31,7 @@ pub row_fits : (t : Table) (place : ℕ) → place < rows_in_page t → place * 
 row_fits t place lt = let all : suc place * size_of t ≤ 4096 = rows_fit t (suc place) (omega (arith, lt)) in omega (arith, all)
 
 -- a row stands in its page, at its place
-pub at_place : (t : Table) (i : ℕ) → row_of t (page_of t i) (place_of t i) ≡ i
+pub at_place : (t : Table) (i : ℕ) → row_number t (page_of t i) (place_of t i) ≡ i
 unfolding page_of place_of
 at_place t i = div-add-mod' i (rows_in_page t)
 
@@ -40,17 +40,17 @@ unfolding place_of
 place_within t i = mod-lt i (some_rows t)
 
 -- and in no other page
-pub one_page : (t : Table) (n place : ℕ) → place < rows_in_page t → page_of t (row_of t n place) ≡ n
+pub one_page : (t : Table) (n place : ℕ) → place < rows_in_page t → page_of t (row_number t n place) ≡ n
 unfolding page_of
 one_page t n place lt = div-mul-add n (rows_in_page t) place lt
 
 -- nor do those after it, up to the page's end
-pub same_page : (t : Table) (n place i rows : ℕ) → place < rows_in_page t → place_of t i + rows ≤ rows_in_page t → i ≤ row_of t n place → row_of t n place < i + rows → n ≡ page_of t i
+pub same_page : (t : Table) (n place i rows : ℕ) → place < rows_in_page t → place_of t i + rows ≤ rows_in_page t → i ≤ row_number t n place → row_number t n place < i + rows → n ≡ page_of t i
 same_page t n place i rows within few ge lt =
     let there = at_place t i in
     let m = page_of t i in
-    let p = row_of t n place - m * rows_in_page t in
-    let is : row_of t n place ≡ row_of t m p = omega (arith, there, ge) in
+    let p = row_number t n place - m * rows_in_page t in
+    let is : row_number t n place ≡ row_number t m p = omega (arith, there, ge) in
     sym (one_page t n place within) ∙ ap (λ r. page_of t r) is ∙ one_page t m p (omega (arith, there, lt, few))
 
 -- pages have numbers of their own

@@ -17,8 +17,8 @@ unfoldable pub place_of : Table → ℕ → ℕ
 place_of t i = i % rows_in_page t
 
 -- the row at a place of a page
-abbrev pub row_of : Table → ℕ → ℕ → ℕ
-row_of t n place = n * rows_in_page t + place
+abbrev pub row_number : Table → ℕ → ℕ → ℕ
+row_number t n place = n * rows_in_page t + place
 
 -- the number by which a page of a table is kept
 abbrev pub page_key : Table → ℕ → ℕ
@@ -35,8 +35,8 @@ page_in pages t n = lookup (nat_eq (page_key t n)) pages
 -- The page of a table has the table's rows. Where the table ends before it, the rest of its bytes is any.
 abbrev pub HasRows : Tables → (Table → ℕ) → Table → ℕ → List ℕ → Type 0
 HasRows lists counts t n page =
-    (place : ℕ) → place < rows_in_page t → row_of t n place < counts t
-    → row_at (size_of t) page place ≡ get_or (lists t) (row_of t n place) []
+    (place : ℕ) → place < rows_in_page t → row_number t n place < counts t
+    → row_at (size_of t) page place ≡ get_or (lists t) (row_number t n place) []
 
 -- each page that is kept has the rows of these tables
 abbrev pub Agrees : KeptPages → Tables → (Table → ℕ) → Type 0
@@ -44,21 +44,21 @@ Agrees pages lists counts =
     (t : Table) (n : ℕ) (page : List ℕ) → page_in pages t n ≡ Some page → HasRows lists counts t n page
 
 -- row i is one of those of table t from the first one on
-abbrev pub IsIn : Table → ℕ → ℕ → Table → ℕ → Type 0
-IsIn t first rows u i = (u ≡ t) × (first ≤ i) × (i < first + rows)
+abbrev pub IsRowOfRun : Table → ℕ → ℕ → Table → ℕ → Type 0
+IsRowOfRun t first rows u i = (u ≡ t) × (first ≤ i) × (i < first + rows)
 
 -- So many rows of a table, from the first one on, are now those of these bytes in each page that is kept; it
 -- was kept before, and all its other rows are as they were.
 pub record IsWrittenTo (t : Table) (first rows : ℕ) (bytes : List ℕ) (u : Table) (n : ℕ) (old new : List ℕ)
     : Type 0 where
-  pub written : (place : ℕ) → place < rows_in_page u → IsIn t first rows u (row_of u n place)
-      → row_at (size_of u) new place ≡ row_at (size_of t) bytes (row_of u n place - first)
-  pub others : (place : ℕ) → place < rows_in_page u → (IsIn t first rows u (row_of u n place) → ⊥)
+  pub written : (place : ℕ) → place < rows_in_page u → IsRowOfRun t first rows u (row_number u n place)
+      → row_at (size_of u) new place ≡ row_at (size_of t) bytes (row_number u n place - first)
+  pub others : (place : ℕ) → place < rows_in_page u → (IsRowOfRun t first rows u (row_number u n place) → ⊥)
       → row_at (size_of u) new place ≡ row_at (size_of u) old place
 
 -- The same of all pages: each page of any table that is kept now was kept before, and has these rows and
 -- otherwise its own.
-abbrev pub IsWritten : KeptPages → KeptPages → Table → ℕ → ℕ → List ℕ → Type 0
-IsWritten old new t first rows bytes =
+abbrev pub ArePagesWritten : KeptPages → KeptPages → Table → ℕ → ℕ → List ℕ → Type 0
+ArePagesWritten old new t first rows bytes =
     (u : Table) (n : ℕ) (page : List ℕ) → page_in new u n ≡ Some page
     → (was : List ℕ) × (page_in old u n ≡ Some was) × IsWrittenTo t first rows bytes u n was page

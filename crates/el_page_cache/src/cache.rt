@@ -5,7 +5,7 @@ ghost use Rattle.lru.specs.LruCache.{lru_cache, promoted, put_entries};
 ghost use Rattle.el_outside.specs.Disk.{over};
 ghost use Rattle.el_row_formats.specs.declared.table.Table.{Table};
 ghost use Rattle.el_row_formats.specs.Tables.{Tables, size_of, limit_of, row_at};
-ghost use Rattle.el_page_cache.specs.Pages.{rows_in_page, page_of, place_of, page_key, page_in, HasRows, Agrees, IsWritten};
+ghost use Rattle.el_page_cache.specs.Pages.{rows_in_page, page_of, place_of, page_key, page_in, HasRows, Agrees, ArePagesWritten};
 
 use crate::page::{MAX_PAGES, Page, key_of, place_of, rows_in_page, zero_page};
 use el_row_formats::Table;
@@ -144,7 +144,7 @@ impl PageCache {
         ensures some { 0 < result }
         ensures few { result ≤ rows }
         ensures same { keys_of self.new ≡ keys_of self.old }
-        ensures written { IsWritten self.old self.new t i result bytes.now }
+        ensures written { ArePagesWritten self.old self.new t i result bytes.now }
     {
         let left = rows_in_page(t) as usize - place_of(t, i);
         let here = rows.min(left);
@@ -158,7 +158,7 @@ impl PageCache {
         requires limit { first + rows ≤ limit_of t }
         requires long { length bytes.now ≡ rows * size_of t }
         ensures same { keys_of self.new ≡ keys_of self.old }
-        ensures written { IsWritten self.old self.new t first rows bytes.now }
+        ensures written { ArePagesWritten self.old self.new t first rows bytes.now }
     {
         let mut done = 0;
         while done < rows {

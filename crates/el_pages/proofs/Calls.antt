@@ -10,7 +10,7 @@ use Rattle.el_redo.specs.RedoBody.{change_bytes, changes_bytes}
 use Rattle.el_redo.proofs.BodyLemmas.{length-change, changes_append, changes_put}
 use Rattle.el_page_cache.proofs.Rows.{length-row, row_ends}
 use Rattle.el_pages.specs.declared.staging.Next.{Next}
-use Rattle.el_pages.specs.within.Staging.{least_write, full_writes, writes_through, IsPaid, AreFew}
+use Rattle.el_pages.specs.within.Staging.{least_write, full_writes, writes_through, IsPaid, ArePaidByBytes}
 
 -- nothing was put
 pub paid_none : (size calls : ℕ) (n : Next) → IsPaid size calls calls n n 0
@@ -43,24 +43,24 @@ paid_on size other a b c old mid new n m total same is one two =
 
 -- ---- all calls, also where the disk failed
 
-pub few_one : (size a b n : ℕ) → b ≤ a + 1 → AreFew size a b n
+pub few_one : (size a b n : ℕ) → b ≤ a + 1 → ArePaidByBytes size a b n
 few_one size a b n le =
     let less : b * least_write size ≤ (a + 1) * least_write size = mul-le b (least_write size) (a + 1) (least_write size) le (omega arith) in
     let one : (a + 1) * least_write size ≡ a * least_write size + least_write size = omega arith in
     omega (arith, less, one)
 
-pub few_paid : (size a b : ℕ) (old new : Next) (n : ℕ) → IsPaid size a b old new n → AreFew size a b (old.used + n)
+pub few_paid : (size a b : ℕ) (old new : Next) (n : ℕ) → IsPaid size a b old new n → ArePaidByBytes size a b (old.used + n)
 few_paid size a b old new n paid = omega (arith, paid.end, paid.paid)
 
-pub few_after : (size a b c : ℕ) (old mid : Next) (n m : ℕ) → IsPaid size a b old mid n → AreFew size b c (mid.used + m) → AreFew size a c (old.used + (n + m))
+pub few_after : (size a b c : ℕ) (old mid : Next) (n m : ℕ) → IsPaid size a b old mid n → ArePaidByBytes size b c (mid.used + m) → ArePaidByBytes size a c (old.used + (n + m))
 few_after size a b c old mid n m paid few = omega (arith, paid.end, paid.paid, few)
 
-pub few_most : (size a b n m : ℕ) → n ≤ m → AreFew size a b n → AreFew size a b m
+pub few_most : (size a b n m : ℕ) → n ≤ m → ArePaidByBytes size a b n → ArePaidByBytes size a b m
 few_most size a b n m le few = omega (arith, le, few)
 
-pub few_on : (size other a b c : ℕ) (old mid : Next) (n m total : ℕ) → other ≡ size → n + m ≤ total → IsPaid size a b old mid n → AreFew other b c (mid.used + m) → AreFew size a c (old.used + total)
+pub few_on : (size other a b c : ℕ) (old mid : Next) (n m total : ℕ) → other ≡ size → n + m ≤ total → IsPaid size a b old mid n → ArePaidByBytes other b c (mid.used + m) → ArePaidByBytes size a c (old.used + total)
 few_on size other a b c old mid n m total same le paid few =
-    few_most size a c (old.used + (n + m)) (old.used + total) (omega (arith, le)) (few_after size a b c old mid n m paid (subst (λ s. AreFew s b c (mid.used + m)) same few))
+    few_most size a c (old.used + (n + m)) (old.used + total) (omega (arith, le)) (few_after size a b c old mid n m paid (subst (λ s. ArePaidByBytes s b c (mid.used + m)) same few))
 
 -- how many they are
 pub paid_writes : (size a b n : ℕ) → 256 ≤ size → b * least_write size ≤ a * least_write size + n → b ≤ a + full_writes size n
@@ -74,7 +74,7 @@ paid_writes size a b n big paid =
     within zero is = omega arith
     within (suc d) is = omega (arith, is (omega arith), paid)
 
-pub few_writes : (size a b n : ℕ) → 256 ≤ size → AreFew size a b n → b ≤ a + writes_through size n
+pub few_writes : (size a b n : ℕ) → 256 ≤ size → ArePaidByBytes size a b n → b ≤ a + writes_through size n
 few_writes size a b n big few =
     let one : (a + 1) * least_write size ≡ a * least_write size + least_write size = omega arith in
     omega (arith, paid_writes size (a + 1) b n big (omega (arith, few, one)))
@@ -126,7 +126,7 @@ paid_three size one two a b c d x y z meta changes same_one same_two first secon
     (paid_on size one a b c start x y 8 meta (8 + meta) same_one refl first second) third
 
 -- nothing waited at its start
-pub few_whole : (size a b bytes : ℕ) → 256 ≤ size → AreFew size a b (start.used + bytes) → b ≤ a + writes_through size bytes
+pub few_whole : (size a b bytes : ℕ) → 256 ≤ size → ArePaidByBytes size a b (start.used + bytes) → b ≤ a + writes_through size bytes
 few_whole size a b bytes big few = few_writes size a b bytes big (few_most size a b (start.used + bytes) bytes (omega arith) few)
 
 pub last_write : (size a b c : ℕ) (n : Next) (bytes : ℕ) → 256 ≤ size → IsPaid size a b start n bytes → c ≡ b + 1 → c ≤ a + writes_through size bytes

@@ -7,14 +7,14 @@ use Rattle.el_outside.proofs.Moments.{joined, weaker}
 use Rattle.el_row_formats.specs.declared.table.Table.{Table}
 use Rattle.el_row_formats.specs.Tables.{Tables}
 use Rattle.el_rows.specs.Reads.{IsEither}
-use Rattle.el_redone.specs.Redone.{Write, overlaid, Fits, into, IsClosed, StandsFor, record_bytes}
+use Rattle.el_redone.specs.Redone.{Write, overlaid, WritesFit, into, IsClosed, ImageStandsFor, record_bytes}
 use Rattle.el_redone.specs.Steps.{EachNow, Leaves, HasRoot, IsAside, IsGated, WillBe, AreOnDisk, IsAtRest, StaysAside}
 use Rattle.el_redone.specs.declared.steps.TheConstants.{ROOT}
 use Rattle.el_redone.proofs.Runs.{now_has}
 use Rattle.el_pages.specs.declared.layout.Layout.{Layout}
 use Rattle.el_pages.specs.Layouts.{redo_of}
 use Rattle.el_pages.specs.Records.{Spells}
-use Rattle.el_pages.specs.Indexes.{HasCounts, Shows, tables_in}
+use Rattle.el_pages.specs.Indexes.{HasCounts, ShowsTables, tables_in}
 use Rattle.el_pages.proofs.Laid.{root_spared}
 use Rattle.el_pages.proofs.Stands.{aside_stands, gated_stands, will_stand, settled_stands}
 
@@ -41,7 +41,7 @@ module _ {D : Type 0} (G : disk.Ghosts D) (earlier : (d : D) (t u : ℕ) (c : Im
     pub opened_will_be : (old new : D) → (redo_of l < ROOT → into ROOT ws ≡ []) → EachNow G (IsGated l.first (redo_of l) files (record_bytes body ++ stale)) old
         → (EachNow G (IsGated l.first (redo_of l) files (record_bytes body ++ stale)) old → Leaves G (IsGated l.first (redo_of l) files (record_bytes body ++ stale)) old new)
         → G.seen new (redo_of l) ≡ 1 ∷ (record_bytes body ++ stale) → OnDisk (redo_of l) (G.seen new) (LeftNow G.moment G.left_since new)
-        → ((f : ℕ) → l.first ≤ f → f < redo_of l → Fits (into f ws) (length (files f)))
+        → ((f : ℕ) → l.first ≤ f → f < redo_of l → WritesFit (into f ws) (length (files f)))
         → EachNow G (WillBe l.first (redo_of l) (λ f. overlaid (into f ws) (files f)) ws (1 ∷ (record_bytes body ++ stale))) new
     opened_will_be old new none each run is durable fits c left =
         let gated = now_has G earlier old new (IsGated l.first (redo_of l) files (record_bytes body ++ stale)) (run each) c left in
@@ -49,7 +49,7 @@ module _ {D : Type 0} (G : disk.Ghosts D) (earlier : (d : D) (t u : ℕ) (c : Im
           file_is = durable c left ∙ is;
           root = λ after. gated.root after ∙ sym (ap (λ (w : List Write). overlaid w (files ROOT)) (none after));
           same = λ f low lt. ap (λ (b : List ℕ). overlaid (into f ws) b) (gated.same f low lt);
-          fits = λ f low lt. subst (λ (b : List ℕ). Fits (into f ws) (length b)) (sym (gated.same f low lt)) (fits f low lt);
+          fits = λ f low lt. subst (λ (b : List ℕ). WritesFit (into f ws) (length b)) (sym (gated.same f low lt)) (fits f low lt);
         }
 
     -- after step 3
@@ -81,15 +81,15 @@ module _ {D : Type 0} (G : disk.Ghosts D) (earlier : (d : D) (t u : ℕ) (c : Im
 module _ (l : Layout) (head : List ℕ) (files : Image) (counts new : List ℕ) (ws : List Write) (old_tables new_tables : Tables)
     (has : HasCounts l head files counts) (was : (t : Table) → old_tables t ≡ tables_in l files counts t)
     (has_new : HasCounts l head (λ f. overlaid (into f ws) (files f)) new) (is : (t : Table) → new_tables t ≡ tables_in l (λ f. overlaid (into f ws) (files f)) new t) where
-  pub shows_old : (c : Image) → StandsFor (Spells l) l.first (redo_of l) files c → Shows l head c old_tables
+  pub shows_old : (c : Image) → ImageStandsFor (Spells l) l.first (redo_of l) files c → ShowsTables l head c old_tables
   shows_old c stands = record { files = files; stands = stands; counts = counts; has = has; same = was }
 
-  pub shows_new : (c : Image) → StandsFor (Spells l) l.first (redo_of l) (λ f. overlaid (into f ws) (files f)) c → Shows l head c new_tables
+  pub shows_new : (c : Image) → ImageStandsFor (Spells l) l.first (redo_of l) (λ f. overlaid (into f ws) (files f)) c → ShowsTables l head c new_tables
   shows_new c stands = record { files = λ f. overlaid (into f ws) (files f); stands = stands; counts = new; has = has_new; same = is }
 
-  module _ {D : Type 0} (G : disk.Ghosts D) (body stale : List ℕ) (spelled : Spells l body ws) (fits : (f : ℕ) → l.first ≤ f → f < redo_of l → Fits (into f ws) (length (files f))) where
+  module _ {D : Type 0} (G : disk.Ghosts D) (body stale : List ℕ) (spelled : Spells l body ws) (fits : (f : ℕ) → l.first ≤ f → f < redo_of l → WritesFit (into f ws) (length (files f))) where
     abbrev either : Image → Type 0
-    either c = HasRoot (redo_of l) files c × IsEither (Shows l head) old_tables new_tables c
+    either c = HasRoot (redo_of l) files c × IsEither (ShowsTables l head) old_tables new_tables c
 
     spared : (c : Image) → HasRoot (redo_of l) (λ f. overlaid (into f ws) (files f)) c → HasRoot (redo_of l) files c
     spared c root after = root after ∙ ap (λ (w : List Write). overlaid w (files ROOT)) (root_spared l body ws spelled after)
@@ -116,10 +116,10 @@ module _ {D : Type 0} (G : disk.Ghosts D) (earlier : (d : D) (t u : ℕ) (c : Im
     (l : Layout) (head : List ℕ) (counts new : List ℕ) (body : List ℕ) (ws : List Write) (old_tables new_tables : Tables) (old : D)
     (has : HasCounts l head (G.seen old) counts) (was : (t : Table) → old_tables t ≡ tables_in l (G.seen old) counts t)
     (has_new : HasCounts l head (λ f. overlaid (into f ws) (G.seen old f)) new) (is : (t : Table) → new_tables t ≡ tables_in l (λ f. overlaid (into f ws) (G.seen old f)) new t)
-    (spelled : Spells l body ws) (fits : (f : ℕ) → l.first ≤ f → f < redo_of l → Fits (into f ws) (length (G.seen old f)))
+    (spelled : Spells l body ws) (fits : (f : ℕ) → l.first ≤ f → f < redo_of l → WritesFit (into f ws) (length (G.seen old f)))
     (rest : IsAtRest G l.first (redo_of l) old) where
   abbrev either_one : Image → Type 0
-  either_one c = HasRoot (redo_of l) (G.seen old) c × IsEither (Shows l head) old_tables new_tables c
+  either_one c = HasRoot (redo_of l) (G.seen old) c × IsEither (ShowsTables l head) old_tables new_tables c
 
   abbrev after : Image
   after f = overlaid (into f ws) (G.seen old f)

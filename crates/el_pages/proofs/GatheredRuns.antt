@@ -13,7 +13,7 @@ use Rattle.el_row_formats.proofs.Keys.{same_key}
 use Rattle.el_rows.specs.Changes.{Changes}
 use Rattle.el_page_cache.proofs.Rows.{length-row, row_ends, row_take, row_drop}
 use Rattle.el_pages.specs.within.Staging.{least_write}
-use Rattle.el_pages.specs.within.Runs.{AreRows, is_first, runs_of, row_bytes, row_writes}
+use Rattle.el_pages.specs.within.Runs.{AreConsecutiveRows, is_first, runs_of, row_bytes, row_writes}
 use Rattle.el_pages.proofs.Laid.{small_size}
 use Rattle.el_pages.proofs.Runs.{next_change}
 use Rattle.el_pages.proofs.Calls.{paid_writes}
@@ -21,8 +21,8 @@ use Rattle.el_pages.proofs.Calls.{paid_writes}
 -- ---- gathered rows
 
 -- rows that are gathered behind others
-pub rows_more : (changes : Changes) (k : ℕ) (t : Table) (first rows more : ℕ) (front bytes : List ℕ) → AreRows changes k t first rows front → AreRows changes (k + rows) t (first + rows) more bytes
-    → AreRows changes k t first (rows + more) (front ++ bytes)
+pub rows_more : (changes : Changes) (k : ℕ) (t : Table) (first rows more : ℕ) (front bytes : List ℕ) → AreConsecutiveRows changes k t first rows front → AreConsecutiveRows changes (k + rows) t (first + rows) more bytes
+    → AreConsecutiveRows changes k t first (rows + more) (front ++ bytes)
 rows_more changes k t first rows more front bytes one two =
     let size = size_of t in
     let both : (rows + more) * size ≡ rows * size + more * size = omega arith in
@@ -46,7 +46,7 @@ rows_more changes k t first rows more front bytes one two =
     }
 
 -- the first of them
-pub rows_front : (changes : Changes) (k : ℕ) (t : Table) (first rows n : ℕ) (bytes : List ℕ) → n ≤ rows → AreRows changes k t first rows bytes → AreRows changes k t first n (take (n * size_of t) bytes)
+pub rows_front : (changes : Changes) (k : ℕ) (t : Table) (first rows n : ℕ) (bytes : List ℕ) → n ≤ rows → AreConsecutiveRows changes k t first rows bytes → AreConsecutiveRows changes k t first n (take (n * size_of t) bytes)
 rows_front changes k t first rows n bytes le all =
     let size = size_of t in
     let less : n * size ≤ rows * size = mul-le n size rows size le (omega arith) in
@@ -117,7 +117,7 @@ first_there (e ∷ es) row is =
     let same = same_key row.table e.0.table row.row e.0.row is in
     (e.1, ap (λ (u : Table). Some (key u e.0.row, e.1)) (sym same.0) ∙ ap (λ i. Some (key row.table i, e.1)) (sym same.1))
 
-module _ (changes : Changes) (k : ℕ) (t : Table) (first rows : ℕ) (bytes : List ℕ) (run : AreRows changes k t first rows bytes) where
+module _ (changes : Changes) (k : ℕ) (t : Table) (first rows : ℕ) (bytes : List ℕ) (run : AreConsecutiveRows changes k t first rows bytes) where
   abbrev row : ℕ → List ℕ
   row j = row_at (size_of t) bytes j
 

@@ -23,7 +23,7 @@ use Rattle.el_rows.proofs.UnderLemmas.{is_under}
 use Rattle.el_base.proofs.Lists.{all_weaker}
 use Rattle.el_redo.proofs.BodyLemmas.{made_fits}
 use Rattle.el_redo.proofs.BodyLemmas as body
-use Rattle.el_redone.specs.Redone.{Write, overlaid, Fits, into, ends}
+use Rattle.el_redone.specs.Redone.{Write, overlaid, WritesFit, into, ends}
 use Rattle.el_redone.specs.declared.steps.TheConstants.{ROOT}
 use Rattle.el_redone.proofs.Writes.{into_here, into_other, into_append, length-overlaid, fits_same}
 use Rattle.el_pages.specs.declared.layout.Layout.{Layout}
@@ -116,7 +116,7 @@ module _ (l : Layout) (t : Table) where
 
   -- each changed row begins at most at the file's end then
   pub rows_fit : (es : Changes) (n reach m : ℕ) → IsStrictlySortedBy row_cmp (keys_of es) → AllByRecursion (IsWhole l) es
-      → ((i : ℕ) → IsSome (changed_at es t i) → i < n) → ((i : ℕ) → reach ≤ i → i < n → IsSome (changed_at es t i)) → reach * size_in l t ≤ m → Fits (here es) m
+      → ((i : ℕ) → IsSome (changed_at es t i) → i < n) → ((i : ℕ) → reach ≤ i → i < n → IsSome (changed_at es t i)) → reach * size_in l t ≤ m → WritesFit (here es) m
   unfolding IsStrictlySortedBy
   rows_fit [] n reach m sorted whole within covers le = tt
   rows_fit (e ∷ es) n reach m sorted whole within covers le = ⊎_elim
@@ -138,7 +138,7 @@ module _ (l : Layout) (t : Table) where
       (λ (lt : r < reach). let is : max reach (r + 1) * size ≡ reach * size = ap (λ k. k * size) (let k_is : max reach (r + 1) ≡ reach = omega (arith, lt) in k_is) in omega (arith, is, le))
       (λ (ge : reach ≤ r). let is : max reach (r + 1) * size ≡ r * size + size = ap (λ k. k * size) (let k_is : max reach (r + 1) ≡ r + 1 = omega (arith, ge) in k_is) ∙ (let k_is : (r + 1) * size ≡ r * size + size = omega arith in k_is) in omega (arith, is, at, sized))
       (cases_lt r reach) in
-      subst (λ (w : List Write). Fits w m) (sym (here_one e es same)) (
+      subst (λ (w : List Write). WritesFit w m) (sym (here_one e es same)) (
         begins_m,
         rows_fit es n (max reach (r + 1)) (max m (r * size_in l e.0.table + length e.1)) sorted.1 whole.1
             (λ i some. ⊎_elim
@@ -148,14 +148,14 @@ module _ (l : Layout) (t : Table) where
             (λ i ge lt. subst (λ (o : Option (List ℕ)). IsSome o) (found_later e es t i (λ _ is. omega (arith, ge, is))) (covers i (omega (arith, ge)) lt))
             room,
       ))
-      (λ ne. subst (λ (w : List Write). Fits w m) (sym (here_other e es ne))
+      (λ ne. subst (λ (w : List Write). WritesFit w m) (sym (here_other e es ne))
       (rows_fit es n reach m sorted.1 whole.1
       (λ i some. within i (subst (λ (o : Option (List ℕ)). IsSome o) (sym (found_later e es t i (λ same _. ne same))) some))
       (λ i ge lt. subst (λ (o : Option (List ℕ)). IsSome o) (found_later e es t i (λ same _. ne same)) (covers i ge lt)) le))
       (same_table t e.0.table)
 
   -- a row is then the changed one, or the one that was there
-  pub row_laid : (es : Changes) (b : List ℕ) (i : ℕ) → IsStrictlySortedBy row_cmp (keys_of es) → AllByRecursion (IsWhole l) es → Fits (here es) (length b)
+  pub row_laid : (es : Changes) (b : List ℕ) (i : ℕ) → IsStrictlySortedBy row_cmp (keys_of es) → AllByRecursion (IsWhole l) es → WritesFit (here es) (length b)
       → (changed_at es t i ≡ None → i * size_in l t + size_in l t ≤ length b)
       → row_at (size_in l t) (overlaid (here es) b) i ≡ unwrap_or (changed_at es t i) (row_at (size_in l t) b i)
   unfolding IsStrictlySortedBy
@@ -165,13 +165,13 @@ module _ (l : Layout) (t : Table) where
       let size = size_in l t in
       let r = e.0.row in
       let one = here_one e es same in
-      let fit = subst (λ (w : List Write). Fits w (length b)) one fits in
+      let fit = subst (λ (w : List Write). WritesFit w (length b)) one fits in
       let at : r * size_in l e.0.table ≡ r * size = ap (λ (u : Table). r * size_in l u) (sym same) in
       let sized : length e.1 ≡ size = whole.0.sized ∙ ap (λ (u : Table). size_in l u) (sym same) in
       let begins : r * size ≤ length b = omega (arith, at, fit.0) in
       let c : List ℕ = over b (r * size) e.1 in
       let long : length c ≡ max (length b) (r * size + size) = length-over b (r * size) e.1 begins ∙ ap (λ n. max (length b) (r * size + n)) sized in
-      let fit_c : Fits (here es) (length c) = fits_same (here es) (max (length b) (r * size_in l e.0.table + length e.1)) (length c) (omega (arith, long, at, sized)) fit.1 in
+      let fit_c : WritesFit (here es) (length c) = fits_same (here es) (max (length b) (r * size_in l e.0.table + length e.1)) (length c) (omega (arith, long, at, sized)) fit.1 in
       let is_c : overlaid (here (e ∷ es)) b ≡ overlaid (here es) c = ap (λ (w : List Write). overlaid w b) one ∙ ap (λ n. overlaid (here es) (over b n e.1)) at in
       ap (λ (f : List ℕ). row_at size f i) is_c ∙
       ⊎_elim
@@ -196,7 +196,7 @@ module _ (l : Layout) (t : Table) where
       (λ ne.
       let later = found_later e es t i (λ same _. ne same) in
       ap (λ (w : List Write). row_at (size_in l t) (overlaid w b) i) (here_other e es ne)
-      ∙ row_laid es b i sorted.1 whole.1 (subst (λ (w : List Write). Fits w (length b)) (here_other e es ne) fits) (λ none. within (later ∙ none))
+      ∙ row_laid es b i sorted.1 whole.1 (subst (λ (w : List Write). WritesFit w (length b)) (here_other e es ne) fits) (λ none. within (later ∙ none))
       ∙ sym (ap (λ (o : Option (List ℕ)). unwrap_or o (row_at (size_in l t) b i)) later))
       (same_table t e.0.table)
 
@@ -321,16 +321,16 @@ module _ (l : Layout) (head : List ℕ) (files : Image) (counts new : List ℕ) 
       (λ some. some)
       (none_or_some (changed_at changes t i))
 
-  fit_here : (t : Table) → Fits (here l t changes) (length (files (file_of l t)))
+  fit_here : (t : Table) → WritesFit (here l t changes) (length (files (file_of l t)))
   fit_here t = rows_fit l t changes (count_at new t) (count_at counts t) (length (files (file_of l t))) made.rising whole (made.within t) (is_changed t) (held t)
 
   -- no write begins after the end of its file
-  pub all_fit : (f : ℕ) → l.first ≤ f → f < l.first + 9 → Fits (into f (writes_of l meta changes)) (length (files f))
+  pub all_fit : (f : ℕ) → l.first ≤ f → f < l.first + 9 → WritesFit (into f (writes_of l meta changes)) (length (files f))
   all_fit f low high = ⊎_elim
-      (λ (is : f ≡ l.first). subst (λ g. Fits (into g (writes_of l meta changes)) (length (files g))) (sym is)
-      (subst (λ (w : List Write). Fits w (length (files l.first))) (sym (into_meta l meta changes)) (omega arith, tt)))
-      (λ (at : (t : Table) × (f ≡ file_of l t)). subst (λ g. Fits (into g (writes_of l meta changes)) (length (files g))) (sym at.1)
-      (subst (λ (w : List Write). Fits w (length (files (file_of l at.0)))) (sym (into_table l meta changes at.0)) (fit_here at.0)))
+      (λ (is : f ≡ l.first). subst (λ g. WritesFit (into g (writes_of l meta changes)) (length (files g))) (sym is)
+      (subst (λ (w : List Write). WritesFit w (length (files l.first))) (sym (into_meta l meta changes)) (omega arith, tt)))
+      (λ (at : (t : Table) × (f ≡ file_of l t)). subst (λ g. WritesFit (into g (writes_of l meta changes)) (length (files g))) (sym at.1)
+      (subst (λ (w : List Write). WritesFit w (length (files (file_of l at.0)))) (sym (into_table l meta changes at.0)) (fit_here at.0)))
       (one_file l f low high)
 
   after_here : (t : Table) → after (file_of l t) ≡ overlaid (here l t changes) (files (file_of l t))

@@ -3,13 +3,13 @@ use Rattle.std.proofs.Common.{◌≡◌, ◌≢◌, ⊎_elim, ℕ, ◌+◌, ◌<
 use Rattle.std.proofs.lemmas.Bool.{cases_eq}
 use Rattle.el_outside.specs.Disk.{Image, over}
 use Rattle.el_rows.specs.Changes.{Changes}
-use Rattle.el_redone.specs.Redone.{Write, overlaid, Fits, into, Covers}
+use Rattle.el_redone.specs.Redone.{Write, overlaid, WritesFit, into, Covers}
 use Rattle.el_redone.proofs.Writes.{into_here, into_other, into_append, overlaid_append, covers_one}
 use Rattle.el_pages.specs.declared.layout.TheConstants.{FORMAT_2}
 use Rattle.el_pages.specs.Records.{write_of, writes_of}
 use Rattle.el_pages.proofs.Laid.{into_meta}
 
-fits_front : (xs ys : List Write) (m : ℕ) → Fits (xs ++ ys) m → Fits xs m
+fits_front : (xs ys : List Write) (m : ℕ) → WritesFit (xs ++ ys) m → WritesFit xs m
 fits_front [] ys m fits = tt
 fits_front (x ∷ xs) ys m fits = (fits.0, fits_front xs ys (max m (x.at + length x.bytes)) fits.1)
 
@@ -20,8 +20,8 @@ module _ (meta : List ℕ) (changes : Changes) where
   split : (f : ℕ) → into f (writes_of FORMAT_2 meta changes) ≡ into f (map (write_of FORMAT_2) changes) ++ into f (meta_write meta ∷ [])
   split f = into_append (map (write_of FORMAT_2) changes) (meta_write meta ∷ []) f
 
-  pub rows_first : (f m : ℕ) → Fits (into f (writes_of FORMAT_2 meta changes)) m → Fits (into f (map (write_of FORMAT_2) changes)) m
-  rows_first f m fits = fits_front (into f (map (write_of FORMAT_2) changes)) (into f (meta_write meta ∷ [])) m (subst (λ (w : List Write). Fits w m) (split f) fits)
+  pub rows_first : (f m : ℕ) → WritesFit (into f (writes_of FORMAT_2 meta changes)) m → WritesFit (into f (map (write_of FORMAT_2) changes)) m
+  rows_first f m fits = fits_front (into f (map (write_of FORMAT_2) changes)) (into f (meta_write meta ∷ [])) m (subst (λ (w : List Write). WritesFit w m) (split f) fits)
 
   pub meta_covered : Covers (into 20 (writes_of FORMAT_2 meta changes)) 0 (length meta)
   meta_covered = covers_one (into 20 (writes_of FORMAT_2 meta changes)) [] (meta_write meta) [] (into_meta FORMAT_2 meta changes)

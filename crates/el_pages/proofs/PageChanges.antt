@@ -13,7 +13,7 @@ use Rattle.el_row_formats.specs.Tables.{Tables, size_of, row_at, row_cmp, key}
 use Rattle.el_row_formats.proofs.Keys.{same_table}
 use Rattle.el_rows.specs.Changes.{Changes, changed_at, count_at, row_under, under, IsMadeFrom}
 use Rattle.el_rows.proofs.UnderLemmas.{get_or-under}
-use Rattle.el_page_cache.specs.Pages.{KeptPages, rows_in_page, row_of, page_in, Agrees, IsIn, IsWritten}
+use Rattle.el_page_cache.specs.Pages.{KeptPages, rows_in_page, row_number, page_in, Agrees, IsRowOfRun, ArePagesWritten}
 use Rattle.el_pages.proofs.Runs.{next_change}
 use Rattle.el_pages.proofs.Laid.{found_first, found_later, none_up_to, none_or_some, other_row}
 
@@ -29,7 +29,7 @@ above_first : (e : RowKey × List ℕ) (es : Changes) → IsStrictlySortedBy row
 unfolding IsStrictlySortedBy
 above_first e es rising = rising.0
 
-is_in_or_not : (t : Table) (first rows : ℕ) (u : Table) (i : ℕ) → IsIn t first rows u i ⊎ (IsIn t first rows u i → ⊥)
+is_in_or_not : (t : Table) (first rows : ℕ) (u : Table) (i : ℕ) → IsRowOfRun t first rows u i ⊎ (IsRowOfRun t first rows u i → ⊥)
 is_in_or_not t first rows u i = ⊎_elim
     (λ same. ⊎_elim
     (λ (lt : i < first). inr (λ is_in. omega (arith, lt, is_in.1)))
@@ -44,8 +44,8 @@ is_in_or_not t first rows u i = ⊎_elim
 -- What is left of the changes from a place on, laid over the pages, makes the rows of the changed tables.
 abbrev pub AreLeft : Tables → List ℕ → Changes → ℕ → KeptPages → Type 0
 AreLeft lists counts changes k pages =
-    (u : Table) (n : ℕ) (page : List ℕ) → page_in pages u n ≡ Some page → (place : ℕ) → place < rows_in_page u → row_of u n place < count_at counts u
-    → unwrap_or (changed_at (drop k changes) u (row_of u n place)) (row_at (size_of u) page place) ≡ row_under lists changes u (row_of u n place)
+    (u : Table) (n : ℕ) (page : List ℕ) → page_in pages u n ≡ Some page → (place : ℕ) → place < rows_in_page u → row_number u n place < count_at counts u
+    → unwrap_or (changed_at (drop k changes) u (row_number u n place)) (row_at (size_of u) page place) ≡ row_under lists changes u (row_number u n place)
 
 module _ (changes : Changes) (k : ℕ) (t : Table) (first rows : ℕ) (bytes : List ℕ) (some : 0 < rows)
     (each : (j : ℕ) → j < rows → slice_get changes (k + j) ≡ Some (key t (first + j), row_at (size_of t) bytes j)) where
@@ -79,7 +79,7 @@ module _ (changes : Changes) (k : ℕ) (t : Table) (first rows : ℕ) (bytes : L
       (above_first (one last) (drop (k + rows) changes) (subst (λ (es : Changes). IsStrictlySortedBy row_cmp (keys_of es)) step (rising_drop (k + last) changes rising)))
 
   -- other rows are found as before
-  same_after : (u : Table) (i : ℕ) → (IsIn t first rows u i → ⊥) → (n : ℕ) → n ≤ rows → changed_at (drop (k + n) changes) u i ≡ changed_at (drop k changes) u i
+  same_after : (u : Table) (i : ℕ) → (IsRowOfRun t first rows u i → ⊥) → (n : ℕ) → n ≤ rows → changed_at (drop (k + n) changes) u i ≡ changed_at (drop k changes) u i
   same_after u i not_in zero le = ap (λ m. changed_at (drop m changes) u i) (let e : k + 0 ≡ k = omega arith in e)
   same_after u i not_in (suc n) le =
       let lt : n < rows = omega (arith, le) in
@@ -91,14 +91,14 @@ module _ (changes : Changes) (k : ℕ) (t : Table) (first rows : ℕ) (bytes : L
   -- ---- the pages
 
   module _ (rising : IsStrictlySortedBy row_cmp (keys_of changes)) (lists : Tables) (counts : List ℕ) (old new : KeptPages)
-      (left : AreLeft lists counts changes k old) (written : IsWritten old new t first rows bytes) where
+      (left : AreLeft lists counts changes k old) (written : ArePagesWritten old new t first rows bytes) where
     pub left_after : AreLeft lists counts changes (k + rows) new
     left_after u n page there place within below =
         let was = written u n page there in
-        let r = row_of u n place in
+        let r = row_number u n place in
         let before = left u n was.0 was.1 place within below in
         ⊎_elim
-        (λ (is_in : IsIn t first rows u r).
+        (λ (is_in : IsRowOfRun t first rows u r).
         let j = r - first in
         let r_is : r ≡ first + j = omega (arith, is_in.1) in
         let lt : j < rows = omega (arith, is_in.1, is_in.2) in
@@ -128,25 +128,25 @@ module _ (lists : Tables) (base : Table → ℕ) (counts : List ℕ) (changes : 
   pub left_first : Agrees pages lists base → AreLeft lists counts changes 0 pages
   left_first agrees u n page there place within below =
       ⊎_elim
-      (λ (none : changed_at changes u (row_of u n place) ≡ None).
+      (λ (none : changed_at changes u (row_number u n place) ≡ None).
       ap (λ (o : Option (List ℕ)). unwrap_or o (row_at (size_of u) page place)) none
-      ∙ agrees u n page there place within (made.covers u (row_of u n place) below none)
-      ∙ sym (ap (λ (o : Option (List ℕ)). unwrap_or o (get_or (lists u) (row_of u n place) [])) none))
-      (λ found. other_row (changed_at changes u (row_of u n place)) (row_at (size_of u) page place) (get_or (lists u) (row_of u n place) []) found)
-      (none_or_some (changed_at changes u (row_of u n place)))
+      ∙ agrees u n page there place within (made.covers u (row_number u n place) below none)
+      ∙ sym (ap (λ (o : Option (List ℕ)). unwrap_or o (get_or (lists u) (row_number u n place) [])) none))
+      (λ found. other_row (changed_at changes u (row_number u n place)) (row_at (size_of u) page place) (get_or (lists u) (row_number u n place) []) found)
+      (none_or_some (changed_at changes u (row_number u n place)))
 
   -- and after the last
   pub left_last : (k : ℕ) → length changes ≤ k → AreLeft lists counts changes k pages → Agrees pages (under lists counts changes) (count_at counts)
   left_last k le left u n page there place within below =
-      sym (ap (λ (es : Changes). unwrap_or (changed_at es u (row_of u n place)) (row_at (size_of u) page place)) (drop_all k changes le))
+      sym (ap (λ (es : Changes). unwrap_or (changed_at es u (row_number u n place)) (row_at (size_of u) page place)) (drop_all k changes le))
       ∙ left u n page there place within below
-      ∙ sym (get_or-under lists counts changes u (row_of u n place) below)
+      ∙ sym (get_or-under lists counts changes u (row_number u n place) below)
 
 -- pages agree with the same tables
 pub agrees_same : (pages : KeptPages) (lists more : Tables) (counts others : Table → ℕ) → ((t : Table) → more t ≡ lists t) → ((t : Table) → others t ≡ counts t) → Agrees pages lists counts → Agrees pages more others
 agrees_same pages lists more counts others rows count agrees t n page there place within below =
-    agrees t n page there place within (subst (λ m. row_of t n place < m) (count t) below)
-    ∙ sym (ap (λ (l : List (List ℕ)). get_or l (row_of t n place) []) (rows t))
+    agrees t n page there place within (subst (λ m. row_number t n place < m) (count t) below)
+    ∙ sym (ap (λ (l : List (List ℕ)). get_or l (row_number t n place) []) (rows t))
 
 -- a cache with no pages agrees with all tables
 pub agrees_none : (pages : KeptPages) (lists : Tables) (counts : Table → ℕ) → pages ≡ [] → Agrees pages lists counts

@@ -3,7 +3,7 @@ use Rattle.std.proofs.Common.{◌≡◌, ℕ, ◌+◌, ◌-◌, ◌*◌, ◌≤�
 use Rattle.el_outside.specs.Disk.{Image}
 use Rattle.el_row_formats.specs.declared.table.Table.{Table}
 use Rattle.el_row_formats.specs.Tables.{Tables, size_of, row_at}
-use Rattle.el_page_cache.specs.Pages.{rows_in_page, page_of, place_of, row_of, HasRows}
+use Rattle.el_page_cache.specs.Pages.{rows_in_page, page_of, place_of, row_number, HasRows}
 use Rattle.el_page_cache.proofs.Rows.{row_front, row_drop}
 use Rattle.el_page_cache.proofs.Places.{at_place, place_within, row_fits}
 use Rattle.el_pages.specs.declared.layout.TheConstants.{FORMAT_2}
@@ -32,4 +32,4 @@ row_in_page t i file page is whole =
 
 -- and all that the tables have
 pub page_has : (files : Image) (lists : Tables) (counts : Table → ℕ) (t : Table) (n : ℕ) (page : List ℕ) → HaveRows files lists counts → IsPage t (files (file_of FORMAT_2 t)) n page → HasRows lists counts t n page
-page_has files lists counts t n page have is place lt below = is place lt (have.whole t (row_of t n place) below) ∙ have.same t (row_of t n place) below
+page_has files lists counts t n page have is place lt below = is place lt (have.whole t (row_number t n place) below) ∙ have.same t (row_number t n place) below

@@ -8,7 +8,7 @@ use Rattle.el_row_formats.specs.declared.table.Table.{Table}
 use Rattle.el_row_formats.specs.Tables.{key, row_at, size_of}
 use Rattle.el_row_formats.proofs.Keys.{index_within}
 use Rattle.el_rows.specs.Changes.{Changes}
-use Rattle.el_redone.specs.Redone.{Write, overlaid, Fits, into, Covers}
+use Rattle.el_redone.specs.Redone.{Write, overlaid, WritesFit, into, Covers}
 use Rattle.el_redone.proofs.Writes.{fits_same}
 use Rattle.el_pages.specs.declared.layout.TheConstants.{FORMAT_2}
 use Rattle.el_pages.specs.Layouts.{file_of, size_in}
@@ -42,25 +42,25 @@ module _ (changes : Changes) (k : ℕ) (t : Table) (first rows : ℕ) (bytes : L
       (subst (λ s. Covers (into (file_of FORMAT_2 t) (map (write_of FORMAT_2) changes)) (first * s) (length bytes)) (sizes_2 t)
       (covers_run FORMAT_2 changes k t first rows bytes long_in each_in some)))
 
-  module _ (seen : Image) (fits : (f : ℕ) → 20 ≤ f → f < 29 → Fits (into f (rest k)) (length (seen f))) where
+  module _ (seen : Image) (fits : (f : ℕ) → 20 ≤ f → f < 29 → WritesFit (into f (rest k)) (length (seen f))) where
     table_file : file_of FORMAT_2 t < 29
     table_file = omega (arith, index_within t)
 
-    fits_here : Fits (into (file_of FORMAT_2 t) (rest (k + 0))) (length (seen (file_of FORMAT_2 t)))
-    fits_here = subst (λ (w : List Write). Fits w (length (seen (file_of FORMAT_2 t)))) (sym (now_rest (file_of FORMAT_2 t))) (fits (file_of FORMAT_2 t) (omega arith) table_file)
+    fits_here : WritesFit (into (file_of FORMAT_2 t) (rest (k + 0))) (length (seen (file_of FORMAT_2 t)))
+    fits_here = subst (λ (w : List Write). WritesFit w (length (seen (file_of FORMAT_2 t)))) (sym (now_rest (file_of FORMAT_2 t))) (fits (file_of FORMAT_2 t) (omega arith) table_file)
 
     pub run_reach : first * size_of t ≤ length (seen (file_of FORMAT_2 t))
     run_reach = subst (λ s. first * s ≤ length (seen (file_of FORMAT_2 t))) (sizes_2 t) (run_begins FORMAT_2 changes k t first rows bytes long_in each_in (length (seen (file_of FORMAT_2 t))) some fits_here)
 
     module _ (now : Image) (here : now (file_of FORMAT_2 t) ≡ over (seen (file_of FORMAT_2 t)) (first * size_of t) bytes) (others : (f : ℕ) → f ≢ file_of FORMAT_2 t → now f ≡ seen f) where
-      pub next_fits : (f : ℕ) → 20 ≤ f → f < 29 → Fits (into f (rest (k + rows))) (length (now f))
+      pub next_fits : (f : ℕ) → 20 ≤ f → f < 29 → WritesFit (into f (rest (k + rows))) (length (now f))
       next_fits f low lt = ⊎_elim
-          (λ (is : f ≡ file_of FORMAT_2 t). subst (λ g. Fits (into g (rest (k + rows))) (length (now g))) (sym is)
+          (λ (is : f ≡ file_of FORMAT_2 t). subst (λ g. WritesFit (into g (rest (k + rows))) (length (now g))) (sym is)
           (fits_same (into (file_of FORMAT_2 t) (rest (k + rows))) (max (length (seen (file_of FORMAT_2 t))) (first * size_in FORMAT_2 t + length bytes)) (length (now (file_of FORMAT_2 t)))
           (ap (λ s. max (length (seen (file_of FORMAT_2 t))) (first * s + length bytes)) (sizes_2 t) ∙ sym (ap (λ (b : List ℕ). length b) here ∙ length-over (seen (file_of FORMAT_2 t)) (first * size_of t) bytes run_reach))
           (run_fits FORMAT_2 changes k t first rows bytes long_in each_in (length (seen (file_of FORMAT_2 t))) some fits_here)))
-          (λ ne. subst (λ (b : List ℕ). Fits (into f (rest (k + rows))) (length b)) (sym (others f ne))
-          (subst (λ (w : List Write). Fits w (length (seen f))) (sym (run_others FORMAT_2 changes k t first rows bytes long_in each_in f rows ne (omega arith) ∙ now_rest f)) (fits f low lt)))
+          (λ ne. subst (λ (b : List ℕ). WritesFit (into f (rest (k + rows))) (length b)) (sym (others f ne))
+          (subst (λ (w : List Write). WritesFit w (length (seen f))) (sym (run_others FORMAT_2 changes k t first rows bytes long_in each_in f rows ne (omega arith) ∙ now_rest f)) (fits f low lt)))
           (cases_eq f (file_of FORMAT_2 t))
 
       pub next_gives : (f : ℕ) → 20 ≤ f → f < 29 → overlaid (into f (rest (k + rows))) (now f) ≡ overlaid (into f (rest k)) (seen f)

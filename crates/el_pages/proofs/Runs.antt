@@ -9,7 +9,7 @@ use Rattle.el_row_formats.specs.declared.table.Table.{Table}
 use Rattle.el_row_formats.specs.declared.table.RowKey.{RowKey}
 use Rattle.el_row_formats.specs.Tables.{key, row_at}
 use Rattle.el_rows.specs.Changes.{Changes}
-use Rattle.el_redone.specs.Redone.{Write, overlaid, Fits, into, Covers}
+use Rattle.el_redone.specs.Redone.{Write, overlaid, WritesFit, into, Covers}
 use Rattle.el_redone.proofs.Writes.{into_here, into_other, into_append, covers_none, covers_one, covers_more, fits_same, over_more, over_none}
 use Rattle.el_pages.specs.declared.layout.Layout.{Layout}
 use Rattle.el_pages.specs.Layouts.{file_of, size_in}
@@ -71,28 +71,28 @@ module _ (l : Layout) (changes : Changes) (k : ℕ) (t : Table) (first rows : �
   covers_run some = subst (λ n. Covers (into (file_of l t) (map (write_of l) changes)) (first * size_in l t) n) (sym long) (covers_rows rows (omega arith) some)
 
   -- the run begins at most at its file's end
-  pub run_begins : (m : ℕ) → 0 < rows → Fits (into (file_of l t) (left 0)) m → first * size_in l t ≤ m
+  pub run_begins : (m : ℕ) → 0 < rows → WritesFit (into (file_of l t) (left 0)) m → first * size_in l t ≤ m
   run_begins m some fits =
-      let fit = subst (λ (w : List Write). Fits w m) (here_next 0 some) fits in
+      let fit = subst (λ (w : List Write). WritesFit w m) (here_next 0 some) fits in
       let at : (first + 0) * size_in l t ≡ first * size_in l t = ap (λ n. n * size_in l t) (let e : first + 0 ≡ first = omega arith in e) in
       omega (arith, fit.0, at)
 
   -- what comes after it fits then
-  fits_after : (m n : ℕ) → n ≤ rows → first * size_in l t ≤ m → Fits (into (file_of l t) (left 0)) m → Fits (into (file_of l t) (left n)) (max m (first * size_in l t + n * size_in l t))
+  fits_after : (m n : ℕ) → n ≤ rows → first * size_in l t ≤ m → WritesFit (into (file_of l t) (left 0)) m → WritesFit (into (file_of l t) (left n)) (max m (first * size_in l t + n * size_in l t))
   fits_after m zero le begins fits = fits_same (into (file_of l t) (left 0)) m _ (let none : 0 * size_in l t ≡ 0 = omega arith in omega (arith, begins, none)) fits
   fits_after m (suc n) le begins fits =
       let size = size_in l t in
       let lt : n < rows = omega (arith, le) in
-      let was = subst (λ (w : List Write). Fits w (max m (first * size + n * size))) (here_next n lt) (fits_after m n (omega (arith, le)) begins fits) in
+      let was = subst (λ (w : List Write). WritesFit w (max m (first * size + n * size))) (here_next n lt) (fits_after m n (omega (arith, le)) begins fits) in
       let at : (first + n) * size ≡ first * size + n * size = add-mul first n size in
       let more : suc n * size ≡ n * size + size = omega arith in
       let is : suc n ≡ n + 1 = omega arith in
-      subst (λ j. Fits (into (file_of l t) (left j)) (max m (first * size + suc n * size))) (sym is)
+      subst (λ j. WritesFit (into (file_of l t) (left j)) (max m (first * size + suc n * size))) (sym is)
       (fits_same (into (file_of l t) (left (n + 1))) (max (max m (first * size + n * size)) ((first + n) * size + length (row_at size bytes n))) (max m (first * size + suc n * size))
       (omega (arith, at, more, row_whole n lt)) was.1)
 
-  pub run_fits : (m : ℕ) → 0 < rows → Fits (into (file_of l t) (left 0)) m → Fits (into (file_of l t) (left rows)) (max m (first * size_in l t + length bytes))
-  run_fits m some fits = subst (λ n. Fits (into (file_of l t) (left rows)) (max m (first * size_in l t + n))) (sym long) (fits_after m rows (omega arith) (run_begins m some fits) fits)
+  pub run_fits : (m : ℕ) → 0 < rows → WritesFit (into (file_of l t) (left 0)) m → WritesFit (into (file_of l t) (left rows)) (max m (first * size_in l t + length bytes))
+  run_fits m some fits = subst (λ n. WritesFit (into (file_of l t) (left rows)) (max m (first * size_in l t + n))) (sym long) (fits_after m rows (omega arith) (run_begins m some fits) fits)
 
   -- what is still to be written gives the same then
   gives_after : (b : List ℕ) (n : ℕ) → n ≤ rows → first * size_in l t ≤ length b

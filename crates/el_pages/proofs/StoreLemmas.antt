@@ -20,7 +20,7 @@ use Rattle.el_outside.proofs.Moments.{weaker}
 use Rattle.el_pages.specs.declared.layout.TheConstants.{FORMAT_2}
 use Rattle.el_pages.specs.Layouts.{file_of, size_in, limit_in, rows_in}
 use Rattle.el_pages.specs.Records.{meta_of}
-use Rattle.el_pages.specs.Indexes.{HasCounts, Shows, IsRooted, ShowsFor, tables_in}
+use Rattle.el_pages.specs.Indexes.{HasCounts, ShowsTables, IsRooted, ShowsFor, tables_in}
 use Rattle.el_pages.specs.Stores.{IsKept, beside_in, lists_in}
 use Rattle.el_pages.specs.within.Caching.{HaveRows}
 use Rattle.el_page_cache.specs.Pages.{KeptPages, Agrees}
@@ -120,17 +120,17 @@ module _ {D : Type 0} (G : disk.Ghosts D) (head : List ℕ) (told : D) (counts :
   lists_now now kept = fun_ext (tables_same (G.seen told) (G.seen now) counts kept.same)
 
   module _ (old new : D) (more : List ℕ) (changes : Changes) (kept : IsKept G head old told counts cache) where
-    pub commit_leaves : Leaves G (λ image. HasRoot 29 (G.seen old) image × IsEither (Shows FORMAT_2 head) (tables_in FORMAT_2 (G.seen old) counts) (under (tables_in FORMAT_2 (G.seen old) counts) more changes) image) old new
-        → Leaves G (λ image. IsRooted image × IsEither (Shows FORMAT_2 head) (lists_in G told counts) (under (lists_in G told counts) more changes) image) old new
+    pub commit_leaves : Leaves G (λ image. HasRoot 29 (G.seen old) image × IsEither (ShowsTables FORMAT_2 head) (tables_in FORMAT_2 (G.seen old) counts) (under (tables_in FORMAT_2 (G.seen old) counts) more changes) image) old new
+        → Leaves G (λ image. IsRooted image × IsEither (ShowsTables FORMAT_2 head) (lists_in G told counts) (under (lists_in G told counts) more changes) image) old new
     commit_leaves run = weaker G.moment G.left_since old new _ _
         (λ image both. (
           subst (λ (b : List ℕ). take 1 b ≡ 2 ∷ []) (sym (both.0 (omega arith))) kept.rooted,
-          subst (λ (tables : Tables). IsEither (Shows FORMAT_2 head) tables (under tables more changes) image) (lists_now old kept) both.1,
+          subst (λ (tables : Tables). IsEither (ShowsTables FORMAT_2 head) tables (under tables more changes) image) (lists_now old kept) both.1,
         )) run
 
 -- images that stand for tables in an index with so many buckets stand for them
 pub either_shows : (magic : List ℕ) (bits : ℕ) (a b : Tables) (c : Image) → MIN_HEAD_BITS ≤ bits → bits ≤ MAX_HEAD_BITS
-    → IsRooted c × IsEither (Shows FORMAT_2 (head_bytes magic bits)) a b c → IsEither (λ image. ShowsFor magic image (2 ^ bits)) a b c
+    → IsRooted c × IsEither (ShowsTables FORMAT_2 (head_bytes magic bits)) a b c → IsEither (λ image. ShowsFor magic image (2 ^ bits)) a b c
 either_shows magic bits a b c least most (rooted, inl shows) = inl (record { rooted = rooted; bits = bits; least = least; most = most; as_many = refl; shows = shows })
 either_shows magic bits a b c least most (rooted, inr shows) = inr (record { rooted = rooted; bits = bits; least = least; most = most; as_many = refl; shows = shows })
 

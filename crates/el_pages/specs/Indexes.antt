@@ -7,7 +7,7 @@ use Rattle.el_rows.specs.Changes.{count_at}
 use Rattle.el_rows.specs.Reads.{Same}
 use Rattle.el_row_formats.specs.declared.limits.TheConstants.{MIN_HEAD_BITS, MAX_HEAD_BITS}
 use Rattle.el_redo.specs.RedoBody.{head_bytes}
-use Rattle.el_redone.specs.Redone.{StandsFor}
+use Rattle.el_redone.specs.Redone.{ImageStandsFor}
 use Rattle.el_redone.specs.declared.steps.TheConstants.{ROOT}
 use Rattle.el_pages.specs.declared.layout.Layout.{Layout}
 use Rattle.el_pages.specs.declared.layout.TheConstants.{FORMAT_2}
@@ -27,9 +27,9 @@ abbrev pub tables_in : Layout → Image → List ℕ → Tables
 tables_in l files counts t = rows_in (size_in l t) (files (file_of l t)) (count_at counts t)
 
 -- The image stands for the tables: they are those of the files that its redo file makes of its files.
-pub record Shows (l : Layout) (head : List ℕ) (image : Image) (tables : Tables) : Type 0 where
+pub record ShowsTables (l : Layout) (head : List ℕ) (image : Image) (tables : Tables) : Type 0 where
   pub files : Image
-  pub stands : StandsFor (Spells l) l.first (redo_of l) files image
+  pub stands : ImageStandsFor (Spells l) l.first (redo_of l) files image
   pub counts : List ℕ
   pub has : HasCounts l head files counts
   pub same : Same (tables_in l files counts) tables
@@ -46,4 +46,4 @@ pub record ShowsFor (magic : List ℕ) (image : Image) (heads : ℕ) (tables : T
   pub least : MIN_HEAD_BITS ≤ bits
   pub most : bits ≤ MAX_HEAD_BITS
   pub as_many : heads ≡ 2 ^ bits
-  pub shows : Shows FORMAT_2 (head_bytes magic bits) image tables
+  pub shows : ShowsTables FORMAT_2 (head_bytes magic bits) image tables

@@ -1,7 +1,7 @@
 // Changed rows that follow one another in their table, gathered in a buffer.
 ghost use Rattle.std.specs.Prelude.{◌≡◌, ◌≤◌, ◌<◌, ◌+◌, ◌*◌, ◌^◌, ℕ, List, Some, length, take, slice_get, IfSome, IsNone};
 ghost use Rattle.el_row_formats.specs.Tables.{key, size_of};
-ghost use Rattle.el_pages.specs.within.Runs.{AreRows};
+ghost use Rattle.el_pages.specs.within.Runs.{AreConsecutiveRows};
 
 use crate::staging::copy;
 use el_row_formats::Table;
@@ -22,7 +22,7 @@ pub(crate) struct Gathered {
 fn following<'a>(sealed: &'a Sealed, k: usize, t: Table, row: u64, most: usize) -> Option<Run<'a>>
     requires within { k ≤ length sealed.now.changes }
     ensures rows { IfSome result
-        (λ run. AreRows sealed.now.changes k t row run.rows run.bytes.now) }
+        (λ run. AreConsecutiveRows sealed.now.changes k t row run.rows run.bytes.now) }
     ensures some { IfSome result (λ run. 0 < run.rows) }
     ensures few { IfSome result (λ run. run.rows ≤ most) }
     ensures fits { IfSome result (λ run. k + run.rows < 2 ^ 64) }
@@ -51,7 +51,7 @@ pub(crate) fn gather(buffer: &mut [u8], sealed: &Sealed, k: usize) -> Gathered
     requires big { 256 ≤ length buffer.old }
     requires within { k < length sealed.now.changes }
     ensures same { length buffer.new ≡ length buffer.old }
-    ensures rows { AreRows sealed.now.changes k result.table result.first result.rows
+    ensures rows { AreConsecutiveRows sealed.now.changes k result.table result.first result.rows
         (take result.used buffer.new) }
     ensures some { 0 < result.rows }
     ensures used { result.used ≡ result.rows * size_of result.table }

@@ -10,7 +10,7 @@ ghost use Rattle.el_rows.specs.Changes.{Changes};
 ghost use Rattle.el_redo.specs.RedoBody.{change_bytes, changes_bytes};
 ghost use Rattle.el_redone.specs.Redone.{record_bytes};
 ghost use Rattle.el_redone.specs.Steps.{StaysAside};
-ghost use Rattle.el_pages.specs.within.Staging.{CanPut, behind, written_so_far, writes_through, IsPaid, AreFew};
+ghost use Rattle.el_pages.specs.within.Staging.{CanPut, behind, written_so_far, writes_through, IsPaid, ArePaidByBytes};
 
 use el_outside::{Disk, DiskFailed};
 use el_redone::{Span, write_behind};
@@ -138,7 +138,7 @@ fn put_change<D: Disk>(
     ensures aside { D.tells → StaysAside ⟦<D as Disk>⟧ span.first span.redo disk.old disk.new }
     ensures paid { IfOk result (λ n. IsPaid (length buffer.old) (D.calls disk.old) (D.calls disk.new)
         next n (9 + length row.now)) }
-    ensures calls { AreFew (length buffer.old) (D.calls disk.old) (D.calls disk.new)
+    ensures calls { ArePaidByBytes (length buffer.old) (D.calls disk.old) (D.calls disk.new)
         (next.used + (9 + length row.now)) }
     ensures cause { HasCause (D.faults disk.old) (D.faults disk.new) result }
 {
@@ -176,7 +176,7 @@ fn put_rows<D: Disk>(
     ensures aside { D.tells → StaysAside ⟦<D as Disk>⟧ span.first span.redo disk.old disk.new }
     ensures paid { IfOk result (λ n. IsPaid (length buffer.old) (D.calls disk.old) (D.calls disk.new)
         next n (rows * (9 + size_of t))) }
-    ensures calls { AreFew (length buffer.old) (D.calls disk.old) (D.calls disk.new)
+    ensures calls { ArePaidByBytes (length buffer.old) (D.calls disk.old) (D.calls disk.new)
         (next.used + rows * (9 + size_of t)) }
     ensures cause { HasCause (D.faults disk.old) (D.faults disk.new) result }
 {
@@ -216,7 +216,7 @@ fn put_changes<D: Disk>(
     ensures aside { D.tells → StaysAside ⟦<D as Disk>⟧ span.first span.redo disk.old disk.new }
     ensures paid { IfOk result (λ n. IsPaid (length buffer.old) (D.calls disk.old) (D.calls disk.new)
         next n (length (changes_bytes sealed.now.changes))) }
-    ensures calls { AreFew (length buffer.old) (D.calls disk.old) (D.calls disk.new)
+    ensures calls { ArePaidByBytes (length buffer.old) (D.calls disk.old) (D.calls disk.new)
         (next.used + length (changes_bytes sealed.now.changes)) }
     ensures cause { HasCause (D.faults disk.old) (D.faults disk.new) result }
 {

@@ -4,7 +4,7 @@ ghost use Rattle.el_outside.specs.Counts.{HasCause};
 ghost use Rattle.el_outside.specs.Disk.{Image, over};
 ghost use Rattle.el_row_formats.specs.Tables.{key, size_of, limit_of, row_at};
 ghost use Rattle.el_rows.specs.Changes.{Changes};
-ghost use Rattle.el_redone.specs.Redone.{Write, overlaid, Fits, into, Covers};
+ghost use Rattle.el_redone.specs.Redone.{Write, overlaid, WritesFit, into, Covers};
 ghost use Rattle.el_redone.specs.Steps.{EachNow, Leaves, WillBe, AreOnDisk};
 ghost use Rattle.el_pages.specs.declared.layout.TheConstants.{FORMAT_2};
 ghost use Rattle.el_pages.specs.Layouts.{file_of};
@@ -52,7 +52,7 @@ fn write_run<D: Disk>(
 fn write_rows<D: Disk>(disk: &mut D, buffer: &mut [u8], sealed: &Sealed) -> Result<(), DiskFailed>
     requires big { 256 ≤ length buffer.old }
     requires fits { D.tells → (f : ℕ) → 20 ≤ f → f < 29
-        → Fits (into f (map (write_of FORMAT_2) sealed.now.changes)) (length (D.seen disk.old f)) }
+        → WritesFit (into f (map (write_of FORMAT_2) sealed.now.changes)) (length (D.seen disk.old f)) }
     ensures same { length buffer.new ≡ length buffer.old }
     ensures written { D.tells → OnOk result ((f : ℕ) → 20 ≤ f → f < 29 → D.seen disk.new f
         ≡ overlaid (into f (map (write_of FORMAT_2) sealed.now.changes)) (D.seen disk.old f)) }
@@ -83,7 +83,7 @@ pub(crate) fn write_all<D: Disk>(
 ) -> Result<(), DiskFailed>
     requires big { 256 ≤ length buffer.old }
     requires fits { D.tells → (f : ℕ) → 20 ≤ f → f < 29
-        → Fits (into f (writes_of FORMAT_2 meta.now sealed.now.changes)) (length (D.seen disk.old f)) }
+        → WritesFit (into f (writes_of FORMAT_2 meta.now sealed.now.changes)) (length (D.seen disk.old f)) }
     ensures same { length buffer.new ≡ length buffer.old }
     ensures written { D.tells → OnOk result ((f : ℕ) → 20 ≤ f → f < 29 → D.seen disk.new f
         ≡ overlaid (into f (writes_of FORMAT_2 meta.now sealed.now.changes)) (D.seen disk.old f)) }

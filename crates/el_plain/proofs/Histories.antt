@@ -12,21 +12,21 @@ use Rattle.el_chain.specs.declared.coin.Coin.{Coin}
 use Rattle.el_chain.specs.declared.entry.Entry.{Entry}
 use Rattle.el_chain.specs.Chains.{Chain}
 use Rattle.el_chain.specs.Coins.{without, add_coin, coins_after, coins_after_all}
-use Rattle.el_plain.specs.within.CoinTables.{AreOwn}
+use Rattle.el_plain.specs.within.CoinTables.{HasOwnOutpoints}
 use Rattle.el_chain.specs.History.{spends, has_own}
-use Rattle.el_chain.specs.Listings.{listed, listed_in, listed_from}
+use Rattle.el_chain.specs.Listings.{entry_listed, listed_in, listed_from}
 use Rattle.el_base.proofs.Lists.{left_at}
 use Rattle.el_chain.proofs.Histories.{own_without, own_put, blocks_listed}
 
 -- a set of own outpoints, as a coin is taken
-pub own_taken : {S : Type 0} (own new : IndexSet Outpoint S) (script_hash : List ℕ) (coins : List Coin) (p : Outpoint) → AreOwn own script_hash coins
-    → ((o : Outpoint) → contains same_outpoint new o ≡ cond (same_outpoint p o) false (contains same_outpoint own o)) → AreOwn new script_hash (without p coins)
+pub own_taken : {S : Type 0} (own new : IndexSet Outpoint S) (script_hash : List ℕ) (coins : List Coin) (p : Outpoint) → HasOwnOutpoints own script_hash coins
+    → ((o : Outpoint) → contains same_outpoint new o ≡ cond (same_outpoint p o) false (contains same_outpoint own o)) → HasOwnOutpoints new script_hash (without p coins)
 own_taken own new script_hash coins p h says = λ o. says o ∙ ap (cond (same_outpoint p o) false) (h o) ∙ sym (own_without script_hash p coins o)
 
 -- as a coin is put
-pub own_made : {S : Type 0} (own new : IndexSet Outpoint S) (script_hash : List ℕ) (coins : List Coin) (c : Coin) (is_own : Bool) → AreOwn own script_hash coins
+pub own_made : {S : Type 0} (own new : IndexSet Outpoint S) (script_hash : List ℕ) (coins : List Coin) (c : Coin) (is_own : Bool) → HasOwnOutpoints own script_hash coins
     → ((o : Outpoint) → contains same_outpoint new o ≡ cond (same_outpoint c.outpoint o) is_own (contains same_outpoint own o))
-    → is_own ≡ bytes_eq c.script.0 script_hash → AreOwn new script_hash (add_coin c coins)
+    → is_own ≡ bytes_eq c.script.0 script_hash → HasOwnOutpoints new script_hash (add_coin c coins)
 own_made own new script_hash coins c is_own h says is =
     λ o. says o ∙ ap (λ (b : Bool). cond (same_outpoint c.outpoint o) is_own b) (h o) ∙ ap (λ (b : Bool). cond (same_outpoint c.outpoint o) b (has_own script_hash coins o)) is
     ∙ sym (own_put script_hash c coins o)
@@ -55,12 +55,12 @@ spends_by script_hash coins t inputs b same other is = is ∙ ap (list_any (λ (
 
 -- a transaction's entry was found, and those of the transactions after it are left
 pub block_step : (script_hash : List ℕ) (height n : ℕ) (ts : List Tx) (t : Tx) (coins : List Coin) (found new whole : List Entry) → n < length ts → t ≡ get_or ts n t
-    → found ++ listed_in script_hash height (drop n ts) coins ≡ whole → new ≡ found ++ listed script_hash height t coins
+    → found ++ listed_in script_hash height (drop n ts) coins ≡ whole → new ≡ found ++ entry_listed script_hash height t coins
     → new ++ listed_in script_hash height (drop (n + 1) ts) (coins_after height t coins) ≡ whole
 block_step script_hash height n ts t coins found new whole lt is so more =
     let left = left_at ts n t lt is in
     ap (λ (es : List Entry). es ++ listed_in script_hash height (drop (n + 1) ts) (coins_after height t coins)) more
-    ∙ append_assoc found (listed script_hash height t coins) (listed_in script_hash height (drop (n + 1) ts) (coins_after height t coins))
+    ∙ append_assoc found (entry_listed script_hash height t coins) (listed_in script_hash height (drop (n + 1) ts) (coins_after height t coins))
     ∙ ap (λ (us : List Tx). found ++ listed_in script_hash height us coins) (sym left) ∙ so
 
 -- a block's entries were found, and those of the blocks after it are left

@@ -21,7 +21,7 @@ use Rattle.el_tx.specs.Hashing.{same_outpoint}
 use Rattle.el_chain.specs.declared.coin.Coin.{Coin}
 use Rattle.el_chain.specs.Coins.{without, add_coin, coin_made, coins_after_all, coins_from}
 use Rattle.el_chain.proofs.CoinLists.{same_gives, same_from, apart_turned}
-use Rattle.el_plain.specs.within.OwnCoins.{standing, own_of, StandRight, AreOwn}
+use Rattle.el_plain.specs.within.OwnCoins.{standing, coins_with_script, StandRight, HasOwnCoins}
 
 -- a table's entry
 abbrev pub Kept : Type 0
@@ -104,7 +104,7 @@ apart_none o ((k, v) ∷ es) none = elim (cases_Bool (same_outpoint o k)) [
 ]
 
 -- the own coins without one outpoint's
-pub own_without : (script_hash : List ℕ) (o : Outpoint) (coins : List Coin) → own_of script_hash (without o coins) ≡ without o (own_of script_hash coins)
+pub own_without : (script_hash : List ℕ) (o : Outpoint) (coins : List Coin) → coins_with_script script_hash (without o coins) ≡ without o (coins_with_script script_hash coins)
 own_without script_hash o [] = refl
 own_without script_hash o (c ∷ cs) = elim (cases_Bool (same_outpoint c.outpoint o)) [
   | inl h ↦ elim (cases_Bool (bytes_eq c.script.0 script_hash)) [
@@ -118,8 +118,8 @@ own_without script_hash o (c ∷ cs) = elim (cases_Bool (same_outpoint c.outpoin
 ]
 
 -- the coin of an outpoint is taken
-pub own_taken : {S : Type 0} (old new : IndexMap Outpoint (Option Coin) S) (script_hash : List ℕ) (coins : List Coin) (o : Outpoint) → AreOwn old script_hash coins
-    → new.entries ≡ insert_entry same_outpoint old.entries o None → IsUnique same_outpoint new → AreOwn new script_hash (without o coins)
+pub own_taken : {S : Type 0} (old new : IndexMap Outpoint (Option Coin) S) (script_hash : List ℕ) (coins : List Coin) (o : Outpoint) → HasOwnCoins old script_hash coins
+    → new.entries ≡ insert_entry same_outpoint old.entries o None → IsUnique same_outpoint new → HasOwnCoins new script_hash (without o coins)
 own_taken old new script_hash coins o h is once = record {
   are = ap standing is ∙ standing_taken o old.entries h.right h.once ∙ ap (without o) h.are ∙ sym (own_without script_hash o coins);
   right = rw is (right_taken o old.entries h.right);
@@ -127,8 +127,8 @@ own_taken old new script_hash coins o h is once = record {
 }
 
 -- an outpoint has no coin to take
-pub own_absent : {S : Type 0} (own : IndexMap Outpoint (Option Coin) S) (script_hash : List ℕ) (coins : List Coin) (o : Outpoint) → AreOwn own script_hash coins
-    → is_some (lookup (same_outpoint o) own.entries) ≡ false → AreOwn own script_hash (without o coins)
+pub own_absent : {S : Type 0} (own : IndexMap Outpoint (Option Coin) S) (script_hash : List ℕ) (coins : List Coin) (o : Outpoint) → HasOwnCoins own script_hash coins
+    → is_some (lookup (same_outpoint o) own.entries) ≡ false → HasOwnCoins own script_hash (without o coins)
 own_absent own script_hash coins o h absent = record {
   are = sym (standing_apart o own.entries h.right (apart_none o own.entries (empty (lookup (same_outpoint o) own.entries) absent))) ∙ ap (without o) h.are ∙ sym (own_without script_hash o coins);
   right = h.right;
@@ -140,22 +140,22 @@ own_absent own script_hash coins o h absent = record {
     empty (Some x) e = absurd (cc)
 
 -- a coin of another script hash is put in
-pub own_other : {S : Type 0} (old mid : IndexMap Outpoint (Option Coin) S) (script_hash : List ℕ) (coins : List Coin) (c : Coin) → AreOwn old script_hash coins
-    → mid.entries ≡ remove_entry (same_outpoint c.outpoint) old.entries → IsUnique same_outpoint mid → bytes_eq c.script.0 script_hash ≡ false → AreOwn mid script_hash (add_coin c coins)
+pub own_other : {S : Type 0} (old mid : IndexMap Outpoint (Option Coin) S) (script_hash : List ℕ) (coins : List Coin) (c : Coin) → HasOwnCoins old script_hash coins
+    → mid.entries ≡ remove_entry (same_outpoint c.outpoint) old.entries → IsUnique same_outpoint mid → bytes_eq c.script.0 script_hash ≡ false → HasOwnCoins mid script_hash (add_coin c coins)
 own_other old mid script_hash coins c h is once other = record {
   are = ap standing is ∙ standing_removed c.outpoint old.entries h.right h.once ∙ ap (without c.outpoint) h.are ∙ sym (own_without script_hash c.outpoint coins)
-      ∙ sym (filter-append (λ (x : Coin). bytes_eq x.script.0 script_hash) (without c.outpoint coins) (c ∷ []) ∙ rw other (append-nil (own_of script_hash (without c.outpoint coins))));
+      ∙ sym (filter-append (λ (x : Coin). bytes_eq x.script.0 script_hash) (without c.outpoint coins) (c ∷ []) ∙ rw other (append-nil (coins_with_script script_hash (without c.outpoint coins))));
   right = rw is (right_removed c.outpoint old.entries h.right);
   once = once;
 }
 
 -- a coin of the script hash is put in
-pub own_put : {S : Type 0} (old mid new : IndexMap Outpoint (Option Coin) S) (script_hash : List ℕ) (coins : List Coin) (c : Coin) → AreOwn old script_hash coins
+pub own_put : {S : Type 0} (old mid new : IndexMap Outpoint (Option Coin) S) (script_hash : List ℕ) (coins : List Coin) (c : Coin) → HasOwnCoins old script_hash coins
     → mid.entries ≡ remove_entry (same_outpoint c.outpoint) old.entries → lookup (same_outpoint c.outpoint) mid.entries ≡ None
-    → new.entries ≡ insert_entry same_outpoint mid.entries c.outpoint (Some c) → IsUnique same_outpoint new → bytes_eq c.script.0 script_hash ≡ true → AreOwn new script_hash (add_coin c coins)
+    → new.entries ≡ insert_entry same_outpoint mid.entries c.outpoint (Some c) → IsUnique same_outpoint new → bytes_eq c.script.0 script_hash ≡ true → HasOwnCoins new script_hash (add_coin c coins)
 own_put old mid new script_hash coins c h is none put once own =
     let last : new.entries ≡ mid.entries ++ (c.outpoint, Some c) ∷ [] = put ∙ insert_entry-new same_outpoint mid c.outpoint (Some c) none in
-    let before : standing mid.entries ≡ own_of script_hash (without c.outpoint coins)
+    let before : standing mid.entries ≡ coins_with_script script_hash (without c.outpoint coins)
     = ap standing is ∙ standing_removed c.outpoint old.entries h.right h.once ∙ ap (without c.outpoint) h.are ∙ sym (own_without script_hash c.outpoint coins) in
     record {
       are = ap standing last ∙ standing_more mid.entries c ∙ ap (λ l. l ++ c ∷ []) before
@@ -165,7 +165,7 @@ own_put old mid new script_hash coins c h is none put once own =
     }
 
 -- a table of no entries
-pub own_none : {S : Type 0} (own : IndexMap Outpoint (Option Coin) S) (script_hash : List ℕ) → own.entries ≡ [] → AreOwn own script_hash []
+pub own_none : {S : Type 0} (own : IndexMap Outpoint (Option Coin) S) (script_hash : List ℕ) → own.entries ≡ [] → HasOwnCoins own script_hash []
 unfolding IsDistinct
 own_none own script_hash none = record { are = rw none refl; right = rw none tt; once = rw none tt }
 

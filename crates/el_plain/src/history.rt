@@ -6,12 +6,12 @@ ghost use Rattle.el_tx.specs.declared.types.Outpoint as outpoint_shape;
 ghost use Rattle.el_tx.specs.declared.types.TxIn as input_shape;
 ghost use Rattle.el_tx.specs.Hashing.{same_outpoint};
 ghost use Rattle.el_chain.specs.Coins as spec;
-ghost use Rattle.el_plain.specs.within.CoinTables.{AreOwn, IfOwn};
+ghost use Rattle.el_plain.specs.within.CoinTables.{HasOwnOutpoints, IfOwnOutpoints};
 ghost use Rattle.el_chain.specs.CoinLists.{FitsBlock};
 ghost use Rattle.el_coins.specs.CoinTables.{HasFitting};
 ghost use Rattle.indexmap.specs.IndexSet.{contains};
 ghost use Rattle.el_chain.specs.History.{history, funds, spends, has_own};
-ghost use Rattle.el_chain.specs.Listings.{listed, listed_in};
+ghost use Rattle.el_chain.specs.Listings.{entry_listed, listed_in};
 
 use el_base::{Hash32, OutOfMemory, sha256};
 use el_chain::{Entry, Placed};
@@ -38,7 +38,7 @@ fn is_funding(tx: &Tx, script_hash: &Hash32) -> bool
 
 // Whether an input takes one of the script hash's own coins.
 fn takes_own(own: &IndexSet<Outpoint>, inputs: &[TxIn]) -> bool
-    ensures { (script_hash : List ℕ) → IfOwn own.now script_hash (λ coins.
+    ensures { (script_hash : List ℕ) → IfOwnOutpoints own.now script_hash (λ coins.
         result ≡ list_any (λ (i : input_shape.TxIn). has_own script_hash coins i.from) inputs.now) }
 {
     for input in inputs {
@@ -51,7 +51,7 @@ fn takes_own(own: &IndexSet<Outpoint>, inputs: &[TxIn]) -> bool
 
 // Whether the transaction takes one of the script hash's own coins; a coinbase takes none.
 fn is_spending(own: &IndexSet<Outpoint>, tx: &Tx) -> bool
-    ensures { (script_hash : List ℕ) → IfOwn own.now script_hash (λ coins.
+    ensures { (script_hash : List ℕ) → IfOwnOutpoints own.now script_hash (λ coins.
         result ≡ spends script_hash coins tx.now) }
 {
     !is_coinbase(tx) && takes_own(own, tx.inputs.as_slice())
@@ -59,8 +59,8 @@ fn is_spending(own: &IndexSet<Outpoint>, tx: &Tx) -> bool
 
 // Takes the coins of the inputs out of the script hash's own.
 fn drop_spent(own: &mut IndexSet<Outpoint>, inputs: &[TxIn])
-    ensures { (script_hash : List ℕ) → IfOwn own.old script_hash (λ coins.
-        AreOwn own.new script_hash (spec.spend_inputs inputs.now coins)) }
+    ensures { (script_hash : List ℕ) → IfOwnOutpoints own.old script_hash (λ coins.
+        HasOwnOutpoints own.new script_hash (spec.spend_inputs inputs.now coins)) }
 {
     for input in inputs {
         own.swap_remove(&input.from);
@@ -69,8 +69,8 @@ fn drop_spent(own: &mut IndexSet<Outpoint>, inputs: &[TxIn])
 
 // Takes the coins that a transaction takes out of the script hash's own.
 fn drop_left(own: &mut IndexSet<Outpoint>, tx: &Tx)
-    ensures { (script_hash : List ℕ) → IfOwn own.old script_hash (λ coins.
-        AreOwn own.new script_hash (spec.coins_left tx.now coins)) }
+    ensures { (script_hash : List ℕ) → IfOwnOutpoints own.old script_hash (λ coins.
+        HasOwnOutpoints own.new script_hash (spec.coins_left tx.now coins)) }
 {
     if !is_coinbase(tx) {
         drop_spent(own, tx.inputs.as_slice());
@@ -98,8 +98,9 @@ fn note_outputs(
     outputs: &[TxOut],
 ) -> Result<(), OutOfMemory>
     requires { length outputs.now < 2 ^ 32 }
-    ensures { (height : ℕ) → IfOwn own.old script_hash.now.0 (λ coins.
-        OnOk result (AreOwn own.new script_hash.now.0 (spec.add_outputs txid height 0 outputs.now coins))) }
+    ensures { (height : ℕ) → IfOwnOutpoints own.old script_hash.now.0 (λ coins.
+        OnOk result (HasOwnOutpoints own.new script_hash.now.0
+        (spec.add_outputs txid height 0 outputs.now coins))) }
 {
     for (index, output) in outputs.iter().enumerate() {
         let outpoint = Outpoint {
@@ -122,10 +123,11 @@ fn add_tx(
     found: &mut Vec<Entry>,
 ) -> Result<(), OutOfMemory>
     requires { FitsBlock tx.now }
-    ensures found { IfOwn own.old script_hash.now.0 (λ coins.
-        OnOk result (found.new.items ≡ found.old.items ++ listed script_hash.now.0 height tx.now coins)) }
-    ensures own { IfOwn own.old script_hash.now.0 (λ coins.
-        OnOk result (AreOwn own.new script_hash.now.0 (spec.coins_after height tx.now coins))) }
+    ensures found { IfOwnOutpoints own.old script_hash.now.0 (λ coins.
+        OnOk result (found.new.items ≡ found.old.items
+        ++ entry_listed script_hash.now.0 height tx.now coins)) }
+    ensures own { IfOwnOutpoints own.old script_hash.now.0 (λ coins.
+        OnOk result (HasOwnOutpoints own.new script_hash.now.0 (spec.coins_after height tx.now coins))) }
 {
     let txid = txid(alloc, tx)?;
     if is_funding(tx, script_hash) || is_spending(own, tx) {
@@ -146,10 +148,10 @@ fn add_block(
     found: &mut Vec<Entry>,
 ) -> Result<(), OutOfMemory>
     requires { AllByRecursion FitsBlock txs.now }
-    ensures found { IfOwn own.old script_hash.now.0 (λ coins.
+    ensures found { IfOwnOutpoints own.old script_hash.now.0 (λ coins.
         OnOk result (found.new.items ≡ found.old.items ++ listed_in script_hash.now.0 height txs.now coins)) }
-    ensures own { IfOwn own.old script_hash.now.0 (λ coins.
-        OnOk result (AreOwn own.new script_hash.now.0 (spec.coins_after_all height txs.now coins))) }
+    ensures own { IfOwnOutpoints own.old script_hash.now.0 (λ coins.
+        OnOk result (HasOwnOutpoints own.new script_hash.now.0 (spec.coins_after_all height txs.now coins))) }
 {
     for tx in txs {
         add_tx(alloc, height, tx, script_hash, own, found)?;

@@ -4,7 +4,7 @@ ghost use Rattle.std.specs.List.{AllByRecursion};
 ghost use Rattle.el_chain.specs.Coins as spec;
 ghost use Rattle.el_chain.specs.Faults.{IsGood};
 ghost use Rattle.el_model.specs.Queries as asked;
-ghost use Rattle.el_plain.specs.within.OwnCoins.{AreOwn, IfOwn};
+ghost use Rattle.el_plain.specs.within.OwnCoins.{HasOwnCoins, IfOwnCoins};
 ghost use Rattle.el_plain.specs.within.Light.{HasFewOutputs};
 
 use crate::txid::txid_of;
@@ -16,8 +16,8 @@ use std::alloc::Global;
 
 // Takes the coin of the outpoint, if it is there; its place stays.
 fn take(own: &mut IndexMap<Outpoint, Option<Coin>>, outpoint: Outpoint) -> Result<(), OutOfMemory>
-    ensures { (script_hash : List ℕ) → IfOwn own.old script_hash (λ coins.
-        OnOk result (AreOwn own.new script_hash (spec.without outpoint coins))) }
+    ensures { (script_hash : List ℕ) → IfOwnCoins own.old script_hash (λ coins.
+        OnOk result (HasOwnCoins own.new script_hash (spec.without outpoint coins))) }
 {
     if own.contains_key(&outpoint) {
         own.insert(outpoint, None)?;
@@ -31,8 +31,8 @@ fn add(
     script_hash: &Hash32,
     coin: Coin,
 ) -> Result<(), OutOfMemory>
-    ensures { IfOwn own.old script_hash.now.0 (λ coins.
-        OnOk result (AreOwn own.new script_hash.now.0 (spec.add_coin coin coins))) }
+    ensures { IfOwnCoins own.old script_hash.now.0 (λ coins.
+        OnOk result (HasOwnCoins own.new script_hash.now.0 (spec.add_coin coin coins))) }
 {
     own.shift_remove(&coin.outpoint);
     if coin.script.0 == script_hash.0 {
@@ -43,8 +43,8 @@ fn add(
 
 // Takes the coins of the inputs.
 fn take_all(own: &mut IndexMap<Outpoint, Option<Coin>>, inputs: &[TxIn]) -> Result<(), OutOfMemory>
-    ensures { (script_hash : List ℕ) → IfOwn own.old script_hash (λ coins.
-        OnOk result (AreOwn own.new script_hash (spec.spend_inputs inputs.now coins))) }
+    ensures { (script_hash : List ℕ) → IfOwnCoins own.old script_hash (λ coins.
+        OnOk result (HasOwnCoins own.new script_hash (spec.spend_inputs inputs.now coins))) }
 {
     for input in inputs {
         take(own, input.from)?;
@@ -54,8 +54,8 @@ fn take_all(own: &mut IndexMap<Outpoint, Option<Coin>>, inputs: &[TxIn]) -> Resu
 
 // Takes the coins that a transaction takes; a coinbase takes none.
 fn take_spent(own: &mut IndexMap<Outpoint, Option<Coin>>, tx: &Tx) -> Result<(), OutOfMemory>
-    ensures { (script_hash : List ℕ) → IfOwn own.old script_hash (λ coins.
-        OnOk result (AreOwn own.new script_hash (spec.coins_left tx.now coins))) }
+    ensures { (script_hash : List ℕ) → IfOwnCoins own.old script_hash (λ coins.
+        OnOk result (HasOwnCoins own.new script_hash (spec.coins_left tx.now coins))) }
 {
     if is_coinbase(tx) {
         return Ok(());
@@ -72,8 +72,8 @@ fn add_outputs(
     outputs: &[TxOut],
 ) -> Result<(), OutOfMemory>
     requires { length outputs.now < 2 ^ 32 }
-    ensures { IfOwn own.old script_hash.now.0 (λ coins. OnOk result
-        (AreOwn own.new script_hash.now.0 (spec.add_outputs txid height 0 outputs.now coins))) }
+    ensures { IfOwnCoins own.old script_hash.now.0 (λ coins. OnOk result
+        (HasOwnCoins own.new script_hash.now.0 (spec.add_outputs txid height 0 outputs.now coins))) }
 {
     for (index, output) in outputs.iter().enumerate() {
         let coin = Coin {
@@ -98,8 +98,8 @@ fn add_txs(
     txs: &[Tx],
 ) -> Result<(), OutOfMemory>
     requires { AllByRecursion HasFewOutputs txs.now }
-    ensures { IfOwn own.old script_hash.now.0 (λ coins. OnOk result
-        (AreOwn own.new script_hash.now.0 (spec.coins_after_all height txs.now coins))) }
+    ensures { IfOwnCoins own.old script_hash.now.0 (λ coins. OnOk result
+        (HasOwnCoins own.new script_hash.now.0 (spec.coins_after_all height txs.now coins))) }
 {
     for tx in txs {
         take_spent(own, tx)?;
@@ -116,7 +116,7 @@ fn own_coins(
 ) -> Result<IndexMap<Outpoint, Option<Coin>>, OutOfMemory>
     requires good { IsGood blocks.now }
     requires few { length blocks.now < 2 ^ 32 }
-    ensures { IfOk result (λ own. AreOwn own script_hash.now.0 (spec.coins blocks.now)) }
+    ensures { IfOk result (λ own. HasOwnCoins own script_hash.now.0 (spec.coins blocks.now)) }
 {
     let mut own = IndexMap::new(alloc);
     for (height, placed) in blocks.iter().enumerate() {

@@ -7,11 +7,11 @@ ghost use Rattle.el_model.specs.LedgerCalls.{Asked};
 ghost use Rattle.el_tx.specs.declared.types.Tx as shape;
 ghost use Rattle.el_tx.specs.Hashing.{txid};
 ghost use Rattle.el_mempool.specs.Adding.{Joined};
-ghost use Rattle.el_mempool.specs.Refusals.{IsRefused, spender_of, kept_with};
+ghost use Rattle.el_mempool.specs.Refusals.{IsTxRefused, spender_of, kept_with};
 ghost use Rattle.el_mempool.specs.Sift.{sift, other_than};
 ghost use Rattle.el_mempool.specs.Unconfirmed.{pool_history, pool_unspent};
 ghost use Rattle.el_mempool.specs.Fees.{AreFeeChanges, FitTogether};
-ghost use Rattle.el_mempool.specs.Standing.{StandsFor, AreChanged, has_entry, kept_tx};
+ghost use Rattle.el_mempool.specs.Standing.{KeptStandFor, AreChanged, has_entry, kept_tx};
 ghost use Rattle.el_sift.specs.Untouched.{KeepsUntouched};
 
 use el_base::{Hash32, OutOfMemory};
@@ -39,19 +39,19 @@ pub struct Pool {
 
 impl Model for Pool {
     ghost use Rattle.el_mempool.specs.Standing.{PoolState};
-    ghost use Rattle.el_kept.specs.Tables.{standing, IsTable, HasFewSlots};
+    ghost use Rattle.el_kept.specs.Tables.{undropped, HasEntries, HasFewSlots};
     ghost use Rattle.el_kept.specs.Listings.{AreListed};
 
     ghost Value = { PoolState };
 
     ghost view = { λ p. record {
-      entries = standing p.table.kept.entries;
+      entries = undropped p.table.kept.entries;
       limits = p.limits;
       changes = p.changes.items;
     } };
 
-    ghost invariant = { λ p. IsTable p.table (standing p.table.kept.entries)
-        × AreListed p.listings (standing p.table.kept.entries) × HasFewSlots p.table };
+    ghost invariant = { λ p. HasEntries p.table (undropped p.table.kept.entries)
+        × AreListed p.listings (undropped p.table.kept.entries) × HasFewSlots p.table };
 }
 
 impl Pool {
@@ -83,10 +83,10 @@ impl Pool {
     ) -> Result<(Hash32, Touched), PoolFault>
         requires live { G.is_live ledger.old }
 
-        ensures joined { (chain : Chain) (kept : List shape.Tx) → StandsFor self.old.entries chain kept
+        ensures joined { (chain : Chain) (kept : List shape.Tx) → KeptStandFor self.old.entries chain kept
             → G.stands ledger.old chain → IfOk result (λ r.
             Joined self.old.limits chain kept bytes.now self.new.entries r.0 r.1) }
-        ensures fees { (chain : Chain) (kept : List shape.Tx) → StandsFor self.old.entries chain kept
+        ensures fees { (chain : Chain) (kept : List shape.Tx) → KeptStandFor self.old.entries chain kept
             → G.stands ledger.old chain
             → OnOk result (AreFeeChanges self.old.entries self.new.entries self.new.changes) }
 
@@ -94,9 +94,9 @@ impl Pool {
         ensures limits { self.new.limits ≡ self.old.limits }
         ensures quiet { Asked ⟦<G as Ledger>⟧ ledger.old ledger.new }
 
-        ensures refused { (chain : Chain) (kept : List shape.Tx) → StandsFor self.old.entries chain kept
+        ensures refused { (chain : Chain) (kept : List shape.Tx) → KeptStandFor self.old.entries chain kept
             → G.stands ledger.old chain → IfErr result (λ e. (e ≡ PoolFault.Memory)
-            ⊎ ((e ≡ PoolFault.DiskFailed) ⊎ IsRefused self.old.limits chain kept bytes.now e)) }
+            ⊎ ((e ≡ PoolFault.DiskFailed) ⊎ IsTxRefused self.old.limits chain kept bytes.now e)) }
         ensures cause { CountsOnly (G.faults ledger.old) (G.faults ledger.new) PoolFault.DiskFailed result }
     {
         add_to(
@@ -116,11 +116,11 @@ impl Pool {
     pub fn drop_tx(&mut self, txid: &Hash32) -> Result<Option<Touched>, OutOfMemory>
         ensures kept { IfOk result (λ r. is_some r ≡ has_entry txid.now self.old.entries) }
         // Over each chain that it stood for.
-        ensures stands { (chain : Chain) (kept : List shape.Tx) → StandsFor self.old.entries chain kept
+        ensures stands { (chain : Chain) (kept : List shape.Tx) → KeptStandFor self.old.entries chain kept
             → IfOk result (λ r. IfSome r (λ touched.
-            StandsFor self.new.entries chain (sift chain (other_than txid.now kept))
+            KeptStandFor self.new.entries chain (sift chain (other_than txid.now kept))
             × AreChanged chain kept chain (sift chain (other_than txid.now kept)) touched)) }
-        ensures fees { (chain : Chain) (kept : List shape.Tx) → StandsFor self.old.entries chain kept
+        ensures fees { (chain : Chain) (kept : List shape.Tx) → KeptStandFor self.old.entries chain kept
             → OnOk result (AreFeeChanges self.old.entries self.new.entries self.new.changes) }
         ensures absent { result ≡ Ok None
             → self.new ≡ record { entries = self.old.entries; limits = self.old.limits; changes = [] } }
@@ -153,12 +153,12 @@ impl Pool {
         requires live { G.is_live ledger.old }
 
         ensures sifted { (before chain : Chain) (kept : List shape.Tx)
-            → StandsFor self.old.entries before kept → G.stands ledger.old chain
+            → KeptStandFor self.old.entries before kept → G.stands ledger.old chain
             → IfSome reach.entry (λ r. KeepsUntouched before chain r.same r.touched.now)
-            → IfOk result (λ touched. StandsFor self.new.entries chain (sift chain kept)
+            → IfOk result (λ touched. KeptStandFor self.new.entries chain (sift chain kept)
             × AreChanged before kept chain (sift chain kept) touched) }
         ensures fees { (before chain : Chain) (kept : List shape.Tx)
-            → StandsFor self.old.entries before kept → G.stands ledger.old chain
+            → KeptStandFor self.old.entries before kept → G.stands ledger.old chain
             → IfSome reach.entry (λ r. KeepsUntouched before chain r.same r.touched.now)
             → OnOk result (AreFeeChanges self.old.entries self.new.entries self.new.changes) }
 
@@ -182,7 +182,7 @@ impl Pool {
     /// memory.
     pub fn last_changes(&self) -> &[FeeChange]
         ensures changes { result.now ≡ self.now.changes }
-        ensures fit { (chain : Chain) (kept : List shape.Tx) → StandsFor self.now.entries chain kept
+        ensures fit { (chain : Chain) (kept : List shape.Tx) → KeptStandFor self.now.entries chain kept
             → FitTogether self.now.entries }
     {
         // 64 bits count the bytes of the kept transactions together.
@@ -192,7 +192,7 @@ impl Pool {
 
     /// What is kept of the transaction with that txid; None exactly where it isn't kept. Takes no memory.
     pub fn find(&self, txid: &Hash32) -> Option<&KeptTx>
-        ensures { (chain : Chain) (kept : List shape.Tx) → StandsFor self.now.entries chain kept
+        ensures { (chain : Chain) (kept : List shape.Tx) → KeptStandFor self.now.entries chain kept
             → option_copied result ≡ option_map (kept_tx chain kept) (kept_with txid.now kept) }
     {
         kept_under(&self.table, txid)
@@ -202,7 +202,7 @@ impl Pool {
     /// that show their txids (`blockchain.scripthash.get_mempool` of Electrum Protocol 1.4). Fails only where
     /// memory runs out.
     pub fn entries(&self, script_hash: &Hash32) -> Result<Vec<PoolEntry>, OutOfMemory>
-        ensures { (chain : Chain) (kept : List shape.Tx) → StandsFor self.now.entries chain kept
+        ensures { (chain : Chain) (kept : List shape.Tx) → KeptStandFor self.now.entries chain kept
             → IfOk result (λ found. found.items ≡ pool_history chain kept script_hash.now.0) }
     {
         entries_at(self.alloc, &self.table, &self.listings, script_hash)
@@ -212,7 +212,7 @@ impl Pool {
     /// spends, as coins with height 0, by the texts that show their txids and then by index
     /// (`blockchain.scripthash.listunspent` of Electrum Protocol 1.4). Fails only where memory runs out.
     pub fn outs(&self, script_hash: &Hash32) -> Result<Vec<Coin>, OutOfMemory>
-        ensures { (chain : Chain) (kept : List shape.Tx) → StandsFor self.now.entries chain kept
+        ensures { (chain : Chain) (kept : List shape.Tx) → KeptStandFor self.now.entries chain kept
             → IfOk result (λ found. found.items ≡ pool_unspent kept script_hash.now.0) }
     {
         outs_at(self.alloc, &self.table, &self.listings, script_hash)
@@ -221,7 +221,7 @@ impl Pool {
     /// The txid of the kept transaction that spends the outpoint; None exactly where none does. Takes no
     /// memory.
     pub fn spender(&self, outpoint: &Outpoint) -> Option<Hash32>
-        ensures { (chain : Chain) (kept : List shape.Tx) → StandsFor self.now.entries chain kept
+        ensures { (chain : Chain) (kept : List shape.Tx) → KeptStandFor self.now.entries chain kept
             → result ≡ option_map txid (spender_of outpoint.now kept) }
     {
         taker_in(&self.table, outpoint)

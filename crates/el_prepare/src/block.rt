@@ -45,14 +45,14 @@ fn outpoints(alloc: Global, inputs: &[TxInView<'_>]) -> Result<Vec<Outpoint>, Al
 
 // An output's value, and its script hash.
 fn paid(output: &TxOutView<'_>) -> (u64, Hash32)
-    ensures { result ≡ spec.paid output.now }
+    ensures { result ≡ spec.value_and_script output.now }
 {
     (output.value(), sha256(output.script()))
 }
 
 // The values and the script hashes of outputs.
 fn paid_all(alloc: Global, outputs: &[TxOutView<'_>]) -> Result<Vec<(u64, Hash32)>, AllocError>
-    ensures { IfOk result (λ v. v.items ≡ map spec.paid outputs.now) }
+    ensures { IfOk result (λ v. v.items ≡ map spec.value_and_script outputs.now) }
 {
     outputs.iter().map(|o| paid(o)).collect(alloc)
 }

@@ -13,7 +13,7 @@ use Rattle.el_side.specs.Deeds.{Device, Deed, Faults, link, archive, disk, relay
 use Rattle.el_side.proofs.Deeds.{rose_still}
 use Rattle.el_words.specs.Commands.{IsAudit}
 use Rattle.el_words.specs.Options.{Word}
-use Rattle.el_words.specs.Proofs.{IsProofOf, ShowsBranch}
+use Rattle.el_words.specs.Proofs.{SayProof, ShowsBranch}
 use Rattle.el_words.specs.Words.{IsServeOf, IsOnceOf, IsCheckOf, IsAuditOf, network_magic}
 use Rattle.el_words.specs.declared.words.Command.TheVariants as command
 use Rattle.el_words.specs.declared.words.Network.{Network}
@@ -32,7 +32,7 @@ use Rattle.el_program.specs.Audits.{AsksIndex, AuditedEnds, IsAuditedOver, IsSen
 use Rattle.el_program.specs.Checks.{IsSent}
 use Rattle.el_program.specs.Ends.{IsOpenedEnd, IsOtherChain, IsUnserved}
 use Rattle.el_program.specs.Opened.{IndexChain}
-use Rattle.el_program.specs.Statuses.{failed_device, ShowsCause}
+use Rattle.el_program.specs.Statuses.{ending_device, ShowsCause}
 use Rattle.el_program.specs.declared.opening.StartFault.{StartFault}
 use Rattle.el_program.specs.declared.opening.StartFault.TheVariants as start
 use Rattle.el_program.specs.declared.status.Status.{Status}
@@ -68,11 +68,11 @@ pub audit_no_check : {words : List (List ℕ)} {blocks index : List ℕ} {networ
 audit_no_check {words} {blocks} {index} {network} {count} is other =
     let same = one_command words (command.Audit blocks index network) (command.CheckChain count) is other in cc
 
-pub audit_no_proof : {words : List (List ℕ)} {blocks index : List ℕ} {network : Network} {said : ProofWords} → IsAuditOf words blocks index network → IsProofOf words said → ⊥
+pub audit_no_proof : {words : List (List ℕ)} {blocks index : List ℕ} {network : Network} {said : ProofWords} → IsAuditOf words blocks index network → SayProof words said → ⊥
 audit_no_proof {words} {blocks} {index} {network} {said} is other =
     let same = one_command words (command.Audit blocks index network) (command.ProveCheck said) is other in cc
 
-pub check_no_proof : {words : List (List ℕ)} {count : ℕ} {said : ProofWords} → IsCheckOf words count → IsProofOf words said → ⊥
+pub check_no_proof : {words : List (List ℕ)} {count : ℕ} {said : ProofWords} → IsCheckOf words count → SayProof words said → ⊥
 check_no_proof {words} {count} {said} is other = let same = one_command words (command.CheckChain count) (command.ProveCheck said) is other in cc
 
 -- neither ask for an index
@@ -115,7 +115,7 @@ found_no_memory (finding.BadBlock block flaw) e = cc
 found_no_memory (finding.Differs script kind at) e = cc
 found_no_memory (finding.Same height txs scripts) e = cc
 
-found_calm : (f : Finding) → (failed_device (finding_status f) ≡ None) × (finding_status f ≢ status.TurnsSpent)
+found_calm : (f : Finding) → (ending_device (finding_status f) ≡ None) × (finding_status f ≢ status.TurnsSpent)
 found_calm finding.Empty = (refl, λ e. cc)
 found_calm (finding.NoPath tip) = (refl, λ e. cc)
 found_calm (finding.TooLarge bytes) = (refl, λ e. cc)
@@ -275,7 +275,7 @@ send_end s is = elim is [
 ]
 
 -- no device was called, and the end is none of a device
-pub still_caused : (turns calls : ℕ) (f : Faults) (s : Status) → ((device : Device) → failed_device s ≡ Some device → ⊥) → (s ≡ status.TurnsSpent → ⊥)
+pub still_caused : (turns calls : ℕ) (f : Faults) (s : Status) → ((device : Device) → ending_device s ≡ Some device → ⊥) → (s ≡ status.TurnsSpent → ⊥)
     → ShowsCause (counts turns calls calls f f) s
 still_caused turns calls f s none unspent = record {
   more = λ device. omega arith;

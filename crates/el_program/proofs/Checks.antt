@@ -11,7 +11,7 @@ use Rattle.el_side.proofs.Deeds.{each_more, rose_still}
 use Rattle.el_program.proofs.Rises.{no_relay}
 use Rattle.el_outside.proofs.Traces.{goes_none}
 use Rattle.el_outside.specs.Images.{LeftSince}
-use Rattle.el_mem_disk.specs.Disks.{DiskState, state_of, left_on, moment_of, kept_in}
+use Rattle.el_mem_disk.specs.Disks.{DiskState, disk_state, left_on, moment_of, kept_in}
 use Rattle.el_mem_disk.specs.DiskFiles.{never_written}
 use Rattle.el_mem_disk.specs.declared.disk.MemDisk.{MemDisk}
 use Rattle.el_mem_disk.specs.declared.failing.FailingCalls.{FailingCalls}
@@ -25,7 +25,7 @@ use Rattle.el_loop.specs.Traffic.{WentBy, no_traffic}
 use Rattle.el_model.specs.declared.fault.QueryFault.{QueryFault}
 use Rattle.el_model.specs.declared.fault.QueryFault.TheVariants as query
 use Rattle.el_program.specs.Checks.{SummaryEnds}
-use Rattle.el_program.specs.Statuses.{failed_device, ShowsCause}
+use Rattle.el_program.specs.Statuses.{ending_device, ShowsCause}
 use Rattle.el_program.specs.declared.status.Status.{Status}
 use Rattle.el_program.specs.declared.status.Status.TheVariants as status
 use Rattle.el_program.specs.within.Unread.{check_status}
@@ -126,8 +126,8 @@ nothing_sent of_link k is_line y turns of_files low high s is counted uncounted 
 
 -- each status of a check has its cause
 pub check_caused : {y : ℕ} (turns calls calls' a a' b d d' : ℕ) (s : Status) → calls' ≡ calls → a ≤ a' → d ≤ d'
-    → s ≢ status.TurnsSpent → failed_device s ≢ Some archive
-    → (failed_device s ≡ Some link → HasRisen a a') → (failed_device s ≡ Some disk → HasRisen d d')
+    → s ≢ status.TurnsSpent → ending_device s ≢ Some archive
+    → (ending_device s ≡ Some link → HasRisen a a') → (ending_device s ≡ Some disk → HasRisen d d')
     → ShowsCause (counts turns calls calls' (faults a b d y) (faults a' b d' y)) s
 check_caused {y} turns calls calls' a a' b d d' s same more_link more_disk no_turns no_files by_link by_disk = record {
   more = each_more (faults a b d y) (faults a' b d' y) more_link (omega arith) more_disk (omega arith);
@@ -138,7 +138,7 @@ check_caused {y} turns calls calls' a a' b d d' s same more_link more_disk no_tu
   spent = λ e. absurd (no_turns e);
 }
   where
-    rose : (device : Device) → failed_device s ≡ Some device → HasRisen (faults a b d y device) (faults a' b d' y device)
+    rose : (device : Device) → ending_device s ≡ Some device → HasRisen (faults a b d y device) (faults a' b d' y device)
     rose link e = by_link e
     rose archive e = absurd (no_files e)
     rose disk e = by_disk e
@@ -187,7 +187,7 @@ none_long [] le = refl
 none_long (x ∷ xs) le = absurd (omega arith)
 
 pub fresh_left : (d : MemDisk) (failing : FailingCalls)
-    → state_of d ≡ record { files = λ f. never_written; past = []; failing = failing; calls = 0; faults = 0; starved = 0 }
+    → disk_state d ≡ record { files = λ f. never_written; past = []; failing = failing; calls = 0; faults = 0; starved = 0 }
     → (image : Image) → left_on d (moment_of d) image → (f : ℕ) → image f ≡ []
 fresh_left d failing is image left f =
     let P : DiskState → Type 0 = λ s. LeftSince (kept_in s.files) s.past (length s.past) image in

@@ -13,10 +13,10 @@ use Rattle.el_redo.specs.declared.faults.OpenFault.{OpenFault}
 use Rattle.el_redo.specs.declared.faults.OpenFault.TheVariants as fault
 use Rattle.el_model.specs.Keeping.{Either}
 use Rattle.el_index.specs.Means.{Means, AreRowsOf}
-use Rattle.el_migrate.specs.ImageChains.{ImageStands, StandsForOne, IsAnyIndex, IsLike, IsLikeOne, IsBeyond}
+use Rattle.el_migrate.specs.ImageChains.{ImageStands, StandsForOne, IsAnyIndex, IsLike, IsLikeOne, IsOtherFile}
 use Rattle.el_program.specs.Ends.{IsUnopened}
 use Rattle.el_program.specs.IndexDisks.{LeavesOneOf, StandsForAll, IsAsBefore}
-use Rattle.el_program.specs.OtherFiles.{OthersStay}
+use Rattle.el_program.specs.OtherFiles.{OtherFilesStay}
 use Rattle.el_program.specs.declared.status.Status.{Status}
 use Rattle.el_program.specs.declared.status.Status.TheVariants as status
 use Rattle.el_program.specs.within.Unread.{open_status}
@@ -143,7 +143,7 @@ unchanged G d = record {
 }
 
 -- an opening of what is no index leaves it as it was
-pub as_before : {D : Type 0} (G : disk.Ghosts D) (old new : D) → OthersStay G old new
+pub as_before : {D : Type 0} (G : disk.Ghosts D) (old new : D) → OtherFilesStay G old new
     → Leaves G (IsLikeOne G old) old new → IsAsBefore G old new
 as_before G old new others crash = record {
   others = others;
@@ -169,7 +169,7 @@ unread_leaves magic seen was flight heads rows image chains (inr stands) shown =
     inr (shown_stands magic image heads rows flight shown (chains flight stands))
 
 -- files beyond both formats' are beyond those of format 2
-pub beyond_new : (f : ℕ) → IsBeyond f → (f < 20) ⊎ (29 < f)
+pub beyond_new : (f : ℕ) → IsOtherFile f → (f < 20) ⊎ (29 < f)
 beyond_new f (inl between) = inl between.1
 beyond_new f (inr after) = inr (omega (arith, after))
 

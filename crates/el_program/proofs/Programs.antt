@@ -17,7 +17,7 @@ use Rattle.el_program.specs.Lives.{IsFresh}
 use Rattle.el_program.specs.Program.{IsServing, IsChecking, serve, once, audit, proof}
 use Rattle.el_program.specs.declared.status.Status.{Status}
 use Rattle.el_program.specs.declared.status.Status.TheVariants as status
-use Rattle.el_program.specs.within.Devices.{folder_of, relay_of, index_of, ports_of, IsServeCommand, IsStreamsCommand, IsAuditCommand, IsCheckCommand}
+use Rattle.el_program.specs.within.Devices.{folder_of, relay_of, folder_of_index, ports_of, IsServeCommand, IsStreamsCommand, IsAuditCommand, IsCheckCommand}
 
 -- a call over these files and ports is one over those that the command asks for
 pub asked_for : {E : Type 0} (P : Call (FilesOf Word) (BlocksOf Word) (RelayOf Word) LinkOverPorts → Type 0)
@@ -28,10 +28,10 @@ pub asked_for : {E : Type 0} (P : Call (FilesOf Word) (BlocksOf Word) (RelayOf W
     × (c.before.disk ≡ index) × (c.before.files.folder ≡ folder_of asked)
     × (c.before.link ≡ ports) × (c.after.link ≡ left)
     × (c.before.relay.outbox ≡ relay_of asked) × (c.status ≡ s))
-    → index.files ≡ index_of asked → ports.asked ≡ ports_of asked
+    → index.files ≡ folder_of_index asked → ports.asked ≡ ports_of asked
     → IfOk result (λ s. (c : Call (FilesOf Word) (BlocksOf Word) (RelayOf Word) LinkOverPorts)
     × P c × (c.words ≡ words) × (c.turns ≡ 2 ^ 64 - 1)
-    × (c.before.disk.files ≡ index_of asked) × (c.before.files.folder ≡ folder_of asked)
+    × (c.before.disk.files ≡ folder_of_index asked) × (c.before.files.folder ≡ folder_of asked)
     × (c.before.link.asked ≡ ports_of asked) × (c.before.relay.outbox ≡ relay_of asked) × (c.status ≡ s))
 asked_for P words asked (Err e) index ports left is at_index at_ports = tt
 asked_for P words asked (Ok s) index ports left is at_index at_ports = (
@@ -55,14 +55,14 @@ pub command_served : {N F B R S E : Type 0} (of_index : disk.Ghosts (FilesOf Wor
     → IsCommand words asked
     → (IsServeCommand asked → IfOk result (λ s. (c : Call (FilesOf Word) (BlocksOf Word) (RelayOf Word) LinkOverPorts)
     × IsCall of_index of_files of_folder of_ports c × (c.words ≡ words) × (c.turns ≡ 2 ^ 64 - 1)
-    × (c.before.disk.files ≡ index_of asked) × (c.before.files.folder ≡ folder_of asked)
+    × (c.before.disk.files ≡ folder_of_index asked) × (c.before.files.folder ≡ folder_of asked)
     × (c.before.link.asked ≡ ports_of asked) × (c.before.relay.outbox ≡ relay_of asked) × (c.status ≡ s)))
     → (IsStreamsCommand asked → IfOk result (λ s. (c : Call N (BlocksOf Word) (RelayOf Word) S)
     × IsCall of_none of_files of_folder of_streams c × (c.words ≡ words) × (c.turns ≡ 2 ^ 64 - 1)
     × (c.before.files.folder ≡ folder_of asked) × (c.status ≡ s)))
     → (IsAuditCommand asked → IfOk result (λ s. (c : Call (FilesOf Word) (BlocksOf Word) (RelayOf Word) S)
     × IsCall of_index of_files of_folder of_streams c × (c.words ≡ words) × (c.turns ≡ 2 ^ 64 - 1)
-    × (c.before.disk.files ≡ index_of asked) × (c.before.files.folder ≡ folder_of asked) × (c.status ≡ s)))
+    × (c.before.disk.files ≡ folder_of_index asked) × (c.before.files.folder ≡ folder_of asked) × (c.status ≡ s)))
     → (IsCheckCommand asked → IfOk result (λ s. (c : Call F B R S)
     × IsCall of_fresh of_no_files of_no_relay of_streams c × (c.words ≡ words) × (c.turns ≡ 2 ^ 64 - 1)
     × IsFresh of_fresh c.before.disk × (c.status ≡ s)))
@@ -118,10 +118,10 @@ pub asked_files : {E K : Type 0} (P : Call (FilesOf Word) (BlocksOf Word) (Relay
     × (c.before.disk ≡ index) × (c.before.files.folder ≡ folder_of asked)
     × (c.before.link ≡ link) × (c.after.link ≡ left)
     × (c.before.relay.outbox ≡ relay_of asked) × (c.status ≡ s))
-    → index.files ≡ index_of asked
+    → index.files ≡ folder_of_index asked
     → IfOk result (λ s. (c : Call (FilesOf Word) (BlocksOf Word) (RelayOf Word) K)
     × P c × (c.words ≡ words) × (c.turns ≡ 2 ^ 64 - 1)
-    × (c.before.disk.files ≡ index_of asked) × (c.before.files.folder ≡ folder_of asked) × (c.status ≡ s))
+    × (c.before.disk.files ≡ folder_of_index asked) × (c.before.files.folder ≡ folder_of asked) × (c.status ≡ s))
 asked_files P words asked (Err e) index link left is at_index = tt
 asked_files P words asked (Ok s) index link left is at_index =
     (is.0, is.1, is.2, is.3, ap (λ (d : FilesOf Word). d.files) is.4 ∙ at_index, is.5, is.9)

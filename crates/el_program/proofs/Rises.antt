@@ -8,7 +8,7 @@ use Rattle.el_side.proofs.Deeds.{each_more}
 use Rattle.el_loop.specs.declared.end.End.{End}
 use Rattle.el_loop.specs.declared.end.End.TheVariants as end
 use Rattle.el_program.specs.Ends.{IsUnserved, IsOpenedEnd}
-use Rattle.el_program.specs.Statuses.{failed_device, ShowsCause, status_of_end}
+use Rattle.el_program.specs.Statuses.{ending_device, ShowsCause, status_of_end}
 use Rattle.el_program.specs.declared.file.FileFault.{FileFault}
 use Rattle.el_program.specs.declared.file.FileFault.TheVariants as file
 use Rattle.el_program.specs.declared.opening.StartFault.{StartFault}
@@ -18,7 +18,7 @@ use Rattle.el_program.specs.declared.status.Status.TheVariants as status
 use Rattle.el_program.specs.within.Unread.{start_status, unread_status}
 
 -- no status is of the relay's failure
-pub no_relay : (s : Status) → failed_device s ≡ Some relay → ⊥
+pub no_relay : (s : Status) → ending_device s ≡ Some relay → ⊥
 no_relay status.ArchiveFailed e = cc
 no_relay status.DiskFailed e = cc
 no_relay status.LinkFailed e = cc
@@ -35,9 +35,9 @@ no_relay status.AuditTooLarge e = cc
 -- No call of `next` was made, and no call failed but one that is told, of the block files or of the index's
 -- device.
 pub unserved_caused : {y : ℕ} (turns calls of_link low high of_disk now : ℕ) (s : Status) → low ≤ high → of_disk ≤ now
-    → failed_device s ≢ Some link → s ≢ status.TurnsSpent
-    → (failed_device s ≡ Some archive → HasRisen low high)
-    → (failed_device s ≡ Some disk → HasRisen of_disk now)
+    → ending_device s ≢ Some link → s ≢ status.TurnsSpent
+    → (ending_device s ≡ Some archive → HasRisen low high)
+    → (ending_device s ≡ Some disk → HasRisen of_disk now)
     → ShowsCause (counts turns calls calls (faults of_link low of_disk y) (faults of_link high now y)) s
 unserved_caused {y} turns calls of_link low high of_disk now s files_more disk_more no_link no_turns by_files
     by_disk =
@@ -51,7 +51,7 @@ unserved_caused {y} turns calls of_link low high of_disk now s files_more disk_m
       spent = λ e. absurd (no_turns e);
     }
   where
-    rose : (device : Device) → failed_device s ≡ Some device
+    rose : (device : Device) → ending_device s ≡ Some device
         → HasRisen (faults of_link low of_disk y device) (faults of_link high now y device)
     rose link e = absurd (no_link e)
     rose archive e = by_files e
@@ -170,7 +170,7 @@ caused_still {y} {y'} turns calls calls_now of_link link_now of_archive archive_
   spent = k.spent;
 }
   where
-    rose : (device : Device) → failed_device s ≡ Some device
+    rose : (device : Device) → ending_device s ≡ Some device
         → HasRisen (faults of_link of_archive of_disk y device) (faults link_now archive_now of_disk y' device)
     rose link e = k.rose link e
     rose archive e = k.rose archive e
@@ -178,7 +178,7 @@ caused_still {y} {y'} turns calls calls_now of_link link_now of_archive archive_
     rose relay e = k.rose relay e
 
 -- the program ends for the device for which its run ends, and as all turns are made
-same_failed : (e : End) → failed_device (status_of_end e) ≡ loop.failed_device e
+same_failed : (e : End) → ending_device (status_of_end e) ≡ loop.failed_device e
 same_failed end.Ended = refl
 same_failed end.DiskFailed = refl
 same_failed end.LinkFailed = refl

@@ -16,7 +16,7 @@ use Rattle.el_words.specs.Commands.{IsServe, IsOnce}
 use Rattle.el_program.specs.Opened.{IndexChain}
 use Rattle.el_side.specs.Deeds.{Faults, Rose, faults}
 use Rattle.el_loop.specs.Counts.{Counts, counts}
-use Rattle.el_loop.specs.Runs.{IsCounted, RunEnds, IsRun, IsHalted}
+use Rattle.el_loop.specs.Runs.{IsAccounted, RunEnds, IsRun, IsHalted}
 use Rattle.el_loop.specs.Traffic.{no_traffic}
 use Rattle.el_program.specs.Ends.{Ends, usage, serve, once, IndexEnds, IsSilent, IsOtherChain, LeavesChain, ServeEnds, UnopenedEnds, OnceEnds, IsServed, IsServedOnce, IsBadFile}
 use Rattle.el_program.specs.Statuses.{status_of_end}
@@ -137,8 +137,8 @@ module _ (c : Counts) (of_before of_after : Faults) (rises : (losses : List Deed
   abbrev pub told : Counts
   told = record c { faults_before = of_before; faults_after = of_after }
 
-  counted_told : (t : Traffic) (losses failed : List Deed) → IsCounted c t losses failed
-      → IsCounted told t losses failed
+  counted_told : (t : Traffic) (losses failed : List Deed) → IsAccounted c t losses failed
+      → IsAccounted told t losses failed
   counted_told t losses failed k =
       record { calls = k.calls; turns = k.turns; rose = rises (losses ++ failed) k.rose; offered = k.offered }
 

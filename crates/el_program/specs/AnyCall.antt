@@ -10,7 +10,7 @@ use Rattle.el_loop.specs.Counts.{counts_of}
 use Rattle.el_loop.specs.Traffic.{WentBy}
 use Rattle.el_words.specs.Commands.{IsAudit, IsServe}
 use Rattle.el_words.specs.Options.{Word}
-use Rattle.el_words.specs.Proofs.{IsProofOf}
+use Rattle.el_words.specs.Proofs.{SayProof}
 use Rattle.el_words.specs.Words.{IsCheckOf}
 use Rattle.el_words.specs.declared.words.ProofWords.{ProofWords}
 use Rattle.el_program.specs.Audits.{AuditEnds, IsVerdict}
@@ -25,7 +25,7 @@ use Rattle.el_program.specs.declared.status.Status.TheVariants as status
 pub record IsNoSummary (words : List Word) : Type 0 where
   pub no_check : (count : ℕ) → IsCheckOf words count → ⊥
   pub no_audit : (magic : List ℕ) → IsAudit words magic → ⊥
-  pub no_proof : (said : ProofWords) → IsProofOf words said → ⊥
+  pub no_proof : (said : ProofWords) → SayProof words said → ⊥
 
 -- With the words of `check-chain` the call ends as such, wherever the disk tells that its files are empty;
 -- with those of `audit` and of `prove-check` it ends as such, the latter without the disk and the block
@@ -46,9 +46,10 @@ pub record IsCall {D A Y K : Type 0} (of_disk : disk.Ghosts D) (of_files : archi
       → (index.sure ≡ true → IsIndexDisk of_disk magic c.before.disk was flight index.chain)
       → (t : Traffic) × WentBy of_link c.before.link c.after.link t
       × AuditEnds of_files magic was flight index (LeavesOneOf of_disk magic c.after.disk)
-      (counts_of of_disk.faults of_files of_relay of_link c.turns c.before c.after) c.before.files c.after.files t
+      (counts_of of_disk.faults of_files of_relay of_link c.turns c.before c.after) c.before.files
+      c.after.files t
       c.status
-  pub proved : (said : ProofWords) → IsProofOf c.words said
+  pub proved : (said : ProofWords) → SayProof c.words said
       → (c.after.disk ≡ c.before.disk) × (c.after.files ≡ c.before.files) × (c.status ≢ status.DiskFailed)
       × ((t : Traffic) × WentBy of_link c.before.link c.after.link t
       × SummaryEnds (IsVerdict said)

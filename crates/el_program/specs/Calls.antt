@@ -20,7 +20,8 @@ pub record Call (D A Y K : Type 0) : Type 0 where
   pub status : Status
 
 -- a call with these parts
-abbrev pub call : {D A Y K : Type 0} → List (List ℕ) → ℕ → Devices D A Y K → Devices D A Y K → Status → Call D A Y K
+abbrev pub call : {D A Y K : Type 0} → List (List ℕ) → ℕ → Devices D A Y K → Devices D A Y K → Status
+    → Call D A Y K
 call words turns before after status =
     record { words = words; turns = turns; before = before; after = after; status = status }
 
@@ -33,5 +34,6 @@ abbrev pub CallEnds : {D A Y K : Type 0} → disk.Ghosts D → archive.Ghosts A 
 CallEnds of_disk of_files of_relay of_link c was flight index leaves = (t : Traffic)
     × (WentBy of_link c.before.link c.after.link t × WentTo of_relay c.before.relay c.after.relay t)
     × Ends of_files c.words was flight index leaves
-    (counts_of of_disk.faults of_files of_relay of_link c.turns c.before c.after) c.before.files c.after.files t
+    (counts_of of_disk.faults of_files of_relay of_link c.turns c.before c.after) c.before.files c.after.files
+    t
     c.status

@@ -17,7 +17,8 @@ use Rattle.el_program.specs.declared.status.Status.TheVariants as status
 
 -- this text was sent to client 1, nothing else went over the link, and no call failed
 pub record IsSent (c : Counts) (t : Traffic) (text : List ℕ) : Type 0 where
-  pub traffic : t ≡ record { arrivals = []; messages = record { peer = 1; text = text } ∷ []; closings = []; offers = [] }
+  pub traffic : t ≡ record
+      { arrivals = []; messages = record { peer = 1; text = text } ∷ []; closings = []; offers = [] }
   pub calls : c.calls_after ≡ c.calls_before
   pub rose : Rose c.faults_before c.faults_after []
 

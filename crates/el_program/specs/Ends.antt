@@ -36,7 +36,8 @@ pub record IsSilent (c : Counts) (t : Traffic) (losses : List Deed) : Type 0 whe
 -- limits, and the desk of broadcasts is on or off. `before` and `after` are the archive before the call and
 -- after it.
 pub record IsServed {A : Type 0} (of_files : block_files.Ghosts A)
-    (magic : List ℕ) (limits : PoolLimits) (relays : Bool) (index : IndexChain) (leaves : Chain → Chain → Type 0) (c : Counts)
+    (magic : List ℕ) (limits : PoolLimits) (relays : Bool) (index : IndexChain)
+    (leaves : Chain → Chain → Type 0) (c : Counts)
     (before after : A) (t : Traffic) (e : End) : Type 0 where
   pub headers : List Node
   pub told : AreHeaders index headers
@@ -130,7 +131,8 @@ pub record IsServedOnce {A : Type 0} (of_files : block_files.Ghosts A) (magic : 
   pub chain : Chain
   pub read : IsRead of_files before now magic nodes chain
   pub grows : of_files.tells → AllGrow now after
-  pub run : RunEnds of_files (initial_world true chain magic greatest_limits (all_added [] nodes) now false) false
+  pub run : RunEnds of_files (initial_world true chain magic greatest_limits (all_added [] nodes) now false)
+      false
       (λ acked flight. Unit {0}) after c t e
 
 -- the records of file 0, up to the size that was told of it, are no chain
@@ -179,7 +181,8 @@ pub data Ends {A : Type 0} (of_files : block_files.Ghosts A)
   usage : IsNoCommand words → s ≡ status.Usage → IsSilent c t []
       → Ends of_files words was flight index leaves c before after t s
   serve : (magic : List ℕ) (asked : IsServe words magic)
-      → IndexEnds of_files magic asked.said.settings.limits asked.said.settings.relays was flight index (leaves magic) c before after t s
+      → IndexEnds of_files magic asked.said.settings.limits asked.said.settings.relays was flight index
+      (leaves magic) c before after t s
       → Ends of_files words was flight index leaves c before after t s
   once : (magic : List ℕ) → IsOnce words magic
       → OnceEnds of_files magic c (of_files.bytes before) (of_files.bytes after) t s

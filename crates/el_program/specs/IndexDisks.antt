@@ -5,7 +5,7 @@ use Rattle.el_outside.specs.Disk.{Image}
 use Rattle.el_outside.specs.Moments.{LeftNow, LeavesOnly}
 use Rattle.el_chain.specs.Chains.{Chain}
 use Rattle.el_migrate.specs.ImageChains.{ImageStands, StandsForOne, IsNoIndex}
-use Rattle.el_program.specs.OtherFiles.{OthersStay}
+use Rattle.el_program.specs.OtherFiles.{OtherFilesStay}
 
 -- each image that a crash now may leave of the disk stands for the one chain or for the other, as an index of
 -- the network with this magic, in the format that is live in it
@@ -23,7 +23,7 @@ pub record StandsForAll (image other : Image) : Type 0 where
 -- The index is as it was, for this network and every other: each image that a crash since then may leave
 -- stands for all for which one stands that it might have left before. No file beyond the index's changed.
 pub record IsAsBefore {D : Type 0} (G : disk.Ghosts D) (old new : D) : Type 0 where
-  pub others : OthersStay G old new
+  pub others : OtherFilesStay G old new
   pub crash : LeavesOnly G.moment G.left_since old new (λ image. (earlier : Image)
       × LeftNow G.moment G.left_since old earlier × StandsForAll earlier image)
 

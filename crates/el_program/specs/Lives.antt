@@ -9,7 +9,7 @@ use Rattle.el_outside.specs.Moments.{LeftNow}
 use Rattle.el_chain.specs.Chains.{Chain}
 use Rattle.el_program.specs.Calls.{Call, CallEnds}
 use Rattle.el_program.specs.Opened.{certain}
-use Rattle.el_program.specs.OtherFiles.{OthersStay}
+use Rattle.el_program.specs.OtherFiles.{OtherFilesStay}
 use Rattle.el_program.specs.declared.status.Status.{Status}
 
 -- a disk is one that another may have left: it reads as one of its images, and has no others
@@ -35,7 +35,7 @@ last_disk d (l ∷ more) = last_disk l.after.disk more
 
 -- a life left all files of its disk beyond the index's as they were
 abbrev pub LeavesOthers : {D A Y K : Type 0} → disk.Ghosts D → Call D A Y K → Type 0
-LeavesOthers of_disk l = OthersStay of_disk l.before.disk l.after.disk
+LeavesOthers of_disk l = OtherFilesStay of_disk l.before.disk l.after.disk
 
 -- a life was lived over these block files, this relay and this link, and ended so
 pub record IsOver {D A Y K : Type 0} (l : Call D A Y K) (words : List (List ℕ)) (turns : ℕ)

@@ -9,7 +9,7 @@ use Rattle.el_relay_folder.specs.Outboxes.{RelayOf}
 use Rattle.el_net.specs.Devices.{BlocksOf, LinkOverPorts}
 use Rattle.el_words.specs.Options.{Word}
 use Rattle.el_words.specs.Words.{IsServeOf, IsOnceOf, IsCheckOf, IsAuditOf}
-use Rattle.el_words.specs.Proofs.{IsProofOf}
+use Rattle.el_words.specs.Proofs.{SayProof}
 use Rattle.el_words.specs.Commands.{IsNoCommand}
 use Rattle.el_words.specs.declared.words.Network.{Network}
 use Rattle.el_words.specs.declared.words.ProofWords.{ProofWords}
@@ -35,9 +35,11 @@ pub record IsCallWith {D A Y K : Type 0} (of_disk : disk.Ghosts D) (of_files : a
 -- of `audit` over the two folders and these, with those of `prove-check` over these. Words of no command are
 -- refused.
 pub data IsServing {N S : Type 0} (of_index : disk.Ghosts (FilesOf Word)) (of_none : disk.Ghosts N)
-    (of_files : archive.Ghosts (BlocksOf Word)) (of_folder : relay.Ghosts (RelayOf Word)) (of_ports : link.Ghosts LinkOverPorts)
+    (of_files : archive.Ghosts (BlocksOf Word)) (of_folder : relay.Ghosts (RelayOf Word))
+    (of_ports : link.Ghosts LinkOverPorts)
     (of_streams : link.Ghosts S) (words : List Word) (s : Status) : Type 0 where
-  serve : (said : ServeWords) → IsServeOf words said → (c : IsCallWith of_index of_files of_folder of_ports words s)
+  serve : (said : ServeWords) → IsServeOf words said
+      → (c : IsCallWith of_index of_files of_folder of_ports words s)
       → c.call.before.disk.files ≡ said.index → c.call.before.files.folder ≡ said.blocks
       → c.call.before.relay.outbox ≡ unwrap_or said.relay []
       → c.call.before.link.asked
@@ -50,7 +52,7 @@ pub data IsServing {N S : Type 0} (of_index : disk.Ghosts (FilesOf Word)) (of_no
       → (c : IsCallWith of_index of_files of_folder of_streams words s) → c.call.before.disk.files ≡ index
       → c.call.before.files.folder ≡ blocks
       → IsServing of_index of_none of_files of_folder of_ports of_streams words s
-  proof : (said : ProofWords) → IsProofOf words said → IsCallWith of_none of_files of_folder of_streams words s
+  proof : (said : ProofWords) → SayProof words said → IsCallWith of_none of_files of_folder of_streams words s
       → IsServing of_index of_none of_files of_folder of_ports of_streams words s
   refused : IsNoCommand words → s ≡ status.Usage
       → IsServing of_index of_none of_files of_folder of_ports of_streams words s

@@ -16,46 +16,46 @@ status_of_end end.OutOfMemory = status.OutOfMemory
 status_of_end end.TurnsSpent = status.TurnsSpent
 
 -- the device whose failure ends it
-abbrev pub failed_device : Status → Option Device
-failed_device status.ArchiveFailed = Some archive
-failed_device status.DiskFailed = Some disk
-failed_device status.LinkFailed = Some link
-failed_device other = None
+abbrev pub ending_device : Status → Option Device
+ending_device status.ArchiveFailed = Some archive
+ending_device status.DiskFailed = Some disk
+ending_device status.LinkFailed = Some link
+ending_device other = None
 
 -- the counts show the cause of such an end
 abbrev pub ShowsCause : Counts → Status → Type 0
-ShowsCause c s = IsCaused c (failed_device s) (s ≡ status.TurnsSpent)
+ShowsCause c s = IsCaused c (ending_device s) (s ≡ status.TurnsSpent)
 
 -- the number that the program exits with
-abbrev pub code_of : Status → ℕ
-code_of status.Ended = 0
-code_of status.Usage = 2
-code_of status.BadIndex = 3
-code_of status.ArchiveFailed = 4
-code_of status.DiskFailed = 5
-code_of status.LinkFailed = 6
-code_of status.OutOfMemory = 7
-code_of status.TurnsSpent = 8
-code_of status.OtherChain = 9
-code_of status.BadChain = 10
-code_of status.AuditDiffers = 11
-code_of status.AuditTooLarge = 12
+abbrev pub exit_code : Status → ℕ
+exit_code status.Ended = 0
+exit_code status.Usage = 2
+exit_code status.BadIndex = 3
+exit_code status.ArchiveFailed = 4
+exit_code status.DiskFailed = 5
+exit_code status.LinkFailed = 6
+exit_code status.OutOfMemory = 7
+exit_code status.TurnsSpent = 8
+exit_code status.OtherChain = 9
+exit_code status.BadChain = 10
+exit_code status.AuditDiffers = 11
+exit_code status.AuditTooLarge = 12
 
 -- how the call ended, in words
-abbrev pub words_of : Status → List ℕ
-words_of status.Ended = codes "ended"
-words_of status.Usage = codes "usage"
-words_of status.BadIndex = codes "bad index"
-words_of status.ArchiveFailed = codes "block files failed"
-words_of status.DiskFailed = codes "index device failed"
-words_of status.LinkFailed = codes "link failed"
-words_of status.OutOfMemory = codes "out of memory"
-words_of status.TurnsSpent = codes "turns spent"
-words_of status.OtherChain = codes "other chain"
-words_of status.BadChain = codes "bad chain"
-words_of status.AuditDiffers = codes "audit differs"
-words_of status.AuditTooLarge = codes "audit too large"
+abbrev pub status_words : Status → List ℕ
+status_words status.Ended = codes "ended"
+status_words status.Usage = codes "usage"
+status_words status.BadIndex = codes "bad index"
+status_words status.ArchiveFailed = codes "block files failed"
+status_words status.DiskFailed = codes "index device failed"
+status_words status.LinkFailed = codes "link failed"
+status_words status.OutOfMemory = codes "out of memory"
+status_words status.TurnsSpent = codes "turns spent"
+status_words status.OtherChain = codes "other chain"
+status_words status.BadChain = codes "bad chain"
+status_words status.AuditDiffers = codes "audit differs"
+status_words status.AuditTooLarge = codes "audit too large"
 
 -- the line: the program's name, a colon and a blank, the words, and byte 10
 abbrev pub line_of : Status → List ℕ
-line_of s = codes "electrum_serve: " ++ (words_of s ++ 10 ∷ [])
+line_of s = codes "electrum_serve: " ++ (status_words s ++ 10 ∷ [])

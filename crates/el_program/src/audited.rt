@@ -17,7 +17,7 @@ ghost use Rattle.el_program.specs.Audits.{AuditedEnds, AuditEnds, finding_status
 ghost use Rattle.el_program.specs.Ends.{IsOpenedEnd, IsUnopened, IsUnserved};
 ghost use Rattle.el_program.specs.IndexDisks.{IsAsBefore, IsIndexDisk, LeavesOneOf};
 ghost use Rattle.el_program.specs.Opened.{IndexChain};
-ghost use Rattle.el_program.specs.OtherFiles.{OthersStay};
+ghost use Rattle.el_program.specs.OtherFiles.{OtherFilesStay};
 ghost use Rattle.el_program.specs.Statuses.{ShowsCause};
 ghost use Rattle.el_program.specs.within.Unread.{audit_status};
 
@@ -64,7 +64,8 @@ fn told(finding: &Finding) -> Status
 fn tell<K: Link>(alloc: Global, link: &mut K, finding: &Finding) -> Status
     ensures ends { (result ≡ finding_status finding.now)
         ⊎ ((result ≡ Status.LinkFailed) ⊎ (result ≡ Status.OutOfMemory)) }
-    ensures sent { K.tells → result ≡ finding_status finding.now → GoesOn (K.trace link.old) (K.trace link.new)
+    ensures sent { K.tells → result ≡ finding_status finding.now
+        → GoesOn (K.trace link.old) (K.trace link.new)
         [] (record { peer = 1; text = finding_line finding.now } ∷ []) [] }
     ensures not_sent { K.tells → result ≢ finding_status finding.now → K.trace link.new ≡ K.trace link.old }
     ensures counted { result ≡ Status.LinkFailed → RoseBy (K.faults link.old) (K.faults link.new) 1 }
@@ -93,7 +94,8 @@ fn audit_ledger<W: Threads + Sync, G: Ledger, A: Archive, K: Link, V: AuditWatch
     watch: &mut V,
 ) -> (Status, G)
     requires live { G.is_live ledger }
-    ensures ends { (turns of_relay : ℕ) (index : IndexChain) → (index.sure ≡ true → G.stands ledger index.chain)
+    ensures ends { (turns of_relay : ℕ) (index : IndexChain)
+        → (index.sure ≡ true → G.stands ledger index.chain)
         → (t : Traffic) × WentBy ⟦<K as Link>⟧ link.old link.new t
         × AuditedEnds ⟦<A as Archive>⟧ magic index
         (counts turns (K.calls link.old) (K.calls link.new)
@@ -152,7 +154,7 @@ fn audit_disk<
     ensures kept { D.tells → IsNoIndex N.magic (D.seen disk) → IsAsBefore ⟦<D as Disk>⟧ disk result.1 }
     ensures kept_counts { result.0 ≡ Status.BadIndex → D.faults result.1 ≡ D.faults disk }
     ensures kept_files { result.0 ≡ Status.BadIndex → archive.new ≡ archive.old }
-    ensures others { D.tells → OthersStay ⟦<D as Disk>⟧ disk result.1 }
+    ensures others { D.tells → OtherFilesStay ⟦<D as Disk>⟧ disk result.1 }
     ensures causes { (turns of_relay : ℕ) → ShowsCause (counts turns (K.calls link.old) (K.calls link.new)
         (faults (K.faults link.old) (A.faults archive.old) (D.faults disk) of_relay)
         (faults (K.faults link.new) (A.faults archive.new) (D.faults result.1) of_relay)) result.0 }
@@ -206,7 +208,7 @@ pub fn serve_audit<W: Threads + Sync, D: Disk, A: Archive, K: Link, V: Watch + A
         → IsAsBefore ⟦<D as Disk>⟧ disk result.1 }
     ensures kept_counts { result.0 ≡ Status.BadIndex → D.faults result.1 ≡ D.faults disk }
     ensures kept_files { result.0 ≡ Status.BadIndex → archive.new ≡ archive.old }
-    ensures others { D.tells → OthersStay ⟦<D as Disk>⟧ disk result.1 }
+    ensures others { D.tells → OtherFilesStay ⟦<D as Disk>⟧ disk result.1 }
     ensures causes { (turns of_relay : ℕ) → ShowsCause (counts turns (K.calls link.old) (K.calls link.new)
         (faults (K.faults link.old) (A.faults archive.old) (D.faults disk) of_relay)
         (faults (K.faults link.new) (A.faults archive.new) (D.faults result.1) of_relay)) result.0 }

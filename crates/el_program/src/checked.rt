@@ -9,7 +9,7 @@ ghost use Rattle.el_loop.specs.Traffic.{WentBy};
 ghost use Rattle.el_program.specs.Checks.{SummaryEnds, IsCheckedDisk};
 ghost use Rattle.el_program.specs.Ends.{IsUnserved};
 ghost use Rattle.el_program.specs.Lives.{IsFresh};
-ghost use Rattle.el_program.specs.OtherFiles.{OthersStay};
+ghost use Rattle.el_program.specs.OtherFiles.{OtherFilesStay};
 ghost use Rattle.el_program.specs.Statuses.{ShowsCause};
 ghost use Rattle.el_program.specs.within.Unread.{check_status};
 ghost use Rattle.el_check_chain.specs.Summaries.{summary_line};
@@ -96,7 +96,7 @@ pub fn serve_check<W: Threads + Sync, D: Disk, K: Link>(
         (counts turns (K.calls link.old) (K.calls link.new)
         (faults (K.faults link.old) of_files (D.faults disk) of_relay)
         (faults (K.faults link.new) of_files (D.faults result.1) of_relay)) result.0 }
-    ensures others { D.tells → OthersStay ⟦<D as Disk>⟧ disk result.1 }
+    ensures others { D.tells → OtherFilesStay ⟦<D as Disk>⟧ disk result.1 }
     ensures kept_counts { result.0 ≡ Status.BadIndex → D.faults result.1 ≡ D.faults disk }
     ensures read { result.0 ≢ Status.Usage }
     ensures unserved { IsUnserved result.0 → link.new ≡ link.old }

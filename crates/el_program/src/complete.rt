@@ -24,15 +24,18 @@ use el_undisturbed::runs_are_undisturbed;
 /// block files.
 pub fn calls_without_failures_are_complete<D: Disk, A: Archive, Y: Relay, K: Link>()
     ensures serve { (c : Call D A Y K) (magic : List ℕ) (was flight chain : Chain)
-        → IsCall ⟦<D as Disk>⟧ ⟦<A as Archive>⟧ ⟦<Y as Relay>⟧ ⟦<K as Link>⟧ c → (asked : IsServe c.words magic)
+        → IsCall ⟦<D as Disk>⟧ ⟦<A as Archive>⟧ ⟦<Y as Relay>⟧ ⟦<K as Link>⟧ c
+        → (asked : IsServe c.words magic)
         → A.tells
         → ShowWholeRecords ⟦<A as Archive>⟧ magic (A.bytes c.before.files) (A.bytes c.after.files)
         → IsIndexDisk ⟦<D as Disk>⟧ magic c.before.disk was flight chain
         → HasRecords (A.bytes c.before.files) chain
-        → NoneFailed (counts_of D.faults ⟦<A as Archive>⟧ ⟦<Y as Relay>⟧ ⟦<K as Link>⟧ c.turns c.before c.after)
+        → NoneFailed (counts_of D.faults ⟦<A as Archive>⟧ ⟦<Y as Relay>⟧ ⟦<K as Link>⟧ c.turns c.before
+        c.after)
         → (t : Traffic) × (WentBy ⟦<K as Link>⟧ c.before.link c.after.link t
         × WentTo ⟦<Y as Relay>⟧ c.before.relay c.after.relay t)
-        × IndexEnds ⟦<A as Archive>⟧ magic asked.said.settings.limits asked.said.settings.relays was flight (certain chain)
+        × IndexEnds ⟦<A as Archive>⟧ magic asked.said.settings.limits asked.said.settings.relays was flight
+        (certain chain)
         (LeavesOneOf ⟦<D as Disk>⟧ magic c.after.disk)
         (counts_of D.faults ⟦<A as Archive>⟧ ⟦<Y as Relay>⟧ ⟦<K as Link>⟧ c.turns c.before c.after)
         c.before.files c.after.files t c.status × IsComplete t c.status }
@@ -40,7 +43,8 @@ pub fn calls_without_failures_are_complete<D: Disk, A: Archive, Y: Relay, K: Lin
         → IsCall ⟦<D as Disk>⟧ ⟦<A as Archive>⟧ ⟦<Y as Relay>⟧ ⟦<K as Link>⟧ c → IsOnce c.words magic
         → A.tells
         → ShowWholeRecords ⟦<A as Archive>⟧ magic (A.bytes c.before.files) (A.bytes c.after.files)
-        → NoneFailed (counts_of D.faults ⟦<A as Archive>⟧ ⟦<Y as Relay>⟧ ⟦<K as Link>⟧ c.turns c.before c.after)
+        → NoneFailed (counts_of D.faults ⟦<A as Archive>⟧ ⟦<Y as Relay>⟧ ⟦<K as Link>⟧ c.turns c.before
+        c.after)
         → (t : Traffic) × (WentBy ⟦<K as Link>⟧ c.before.link c.after.link t
         × WentTo ⟦<Y as Relay>⟧ c.before.relay c.after.relay t)
         × OnceEnds ⟦<A as Archive>⟧ magic

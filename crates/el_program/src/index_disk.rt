@@ -2,11 +2,11 @@
 ghost use Rattle.std.specs.Prelude.{◌≡◌, ◌≢◌, ◌⊎◌, ◌≤◌, ◌^◌, ℕ, IfOk, IfErr, MatchResult};
 ghost use Rattle.el_chain.specs.Chains.{Chain};
 ghost use Rattle.el_outside.specs.Counts.{RoseBy};
-ghost use Rattle.el_migrate.specs.ImageChains.{IsNoIndex, IsBeyond};
+ghost use Rattle.el_migrate.specs.ImageChains.{IsNoIndex, IsOtherFile};
 ghost use Rattle.el_pages.specs.Indexes.{IsRooted};
 ghost use Rattle.el_row_formats.specs.declared.limits.TheConstants.{MIN_HEAD_BITS, MAX_HEAD_BITS};
 ghost use Rattle.el_program.specs.IndexDisks.{LeavesOneOf, IsAsBefore, IsIndexDisk};
-ghost use Rattle.el_program.specs.OtherFiles.{OthersStay};
+ghost use Rattle.el_program.specs.OtherFiles.{OtherFilesStay};
 ghost use Rattle.el_program.specs.within.Unread.{open_status};
 
 use crate::status::Status;
@@ -68,9 +68,9 @@ pub fn open_index<D: Disk, N: NetworkMagic, V: Watch>(
     ensures kept { D.tells → IsNoIndex N.magic (D.seen disk)
         → IfErr result (λ e. IsAsBefore ⟦<D as Disk>⟧ disk e.1) }
     // Beside the index stands what stood in the files beyond its own, which are as they were.
-    ensures beside { D.tells → IfOk result (λ i. (f : ℕ) → IsBeyond f
+    ensures beside { D.tells → IfOk result (λ i. (f : ℕ) → IsOtherFile f
         → ⟦<Index<Pages<D, N>> as el_model::Ledger>⟧.beside i f ≡ D.seen disk f) }
-    ensures others { D.tells → IfErr result (λ e. OthersStay ⟦<D as Disk>⟧ disk e.1) }
+    ensures others { D.tells → IfErr result (λ e. OtherFilesStay ⟦<D as Disk>⟧ disk e.1) }
     ensures uncounted { IfOk result (λ i. ⟦<Index<Pages<D, N>> as el_model::Ledger>⟧.faults i
         ≡ D.faults disk) }
     ensures counted { IfErr result (λ e. e.0 ≡ Status.DiskFailed

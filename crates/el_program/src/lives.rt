@@ -58,7 +58,8 @@ fn live_on<W: Threads + Sync, D: Disk, A: Archive, Y: Relay, K: Link, B: Between
     requires ends { length ends.old ≡ length archives.old }
     ensures lived { (magic : List ℕ) (was flight : Chain) → D.tells → IsServe (texts words.now) magic
         → LeavesOneOf ⟦<D as Disk>⟧ magic disk was flight
-        → Lived ⟦<D as Disk>⟧ ⟦<A as Archive>⟧ ⟦<Y as Relay>⟧ ⟦<K as Link>⟧ disk was flight (texts words.now) turns
+        → Lived ⟦<D as Disk>⟧ ⟦<A as Archive>⟧ ⟦<Y as Relay>⟧ ⟦<K as Link>⟧ disk was flight (texts words.now)
+        turns
         archives.old archives.new relays.old relays.new links.old links.new ends.new result }
 {
     let Some((archive, archives)) = archives.split_first_mut() else {
@@ -115,7 +116,8 @@ pub fn live<W: Threads + Sync, D: Disk, A: Archive, Y: Relay, K: Link, B: Betwee
     // from the one that then was in flight. Each leaves the files beyond the index's as they were.
     ensures whole { (magic : List ℕ) → D.tells → IsServe (texts words.now) magic
         → IsFresh ⟦<D as Disk>⟧ disk → (lives : List (Call D A Y K))
-        × AreOver lives (texts words.now) turns archives.old archives.new relays.old relays.new links.old links.new ends.new
+        × AreOver lives (texts words.now) turns archives.old archives.new relays.old relays.new links.old
+        links.new ends.new
         × AreLives ⟦<D as Disk>⟧ disk lives × (result ≡ last_disk disk lives)
         × AllByRecursion (LeavesOthers ⟦<D as Disk>⟧) lives
         × GoOn ⟦<D as Disk>⟧ ⟦<A as Archive>⟧ ⟦<Y as Relay>⟧ ⟦<K as Link>⟧ [] [] lives }

@@ -4,12 +4,12 @@ ghost use Rattle.std.specs.Process.{exit_status};
 ghost use Rattle.el_words.specs.Options.{Word};
 ghost use Rattle.el_words.specs.Words.{texts};
 ghost use Rattle.el_words.specs.Commands.{IsNoCommand};
-ghost use Rattle.el_program.specs.within.Devices.{folder_of, relay_of, index_of, ports_of, IsServeCommand, IsStreamsCommand, IsAuditCommand, IsCheckCommand};
+ghost use Rattle.el_program.specs.within.Devices.{folder_of, relay_of, folder_of_index, ports_of, IsServeCommand, IsStreamsCommand, IsAuditCommand, IsCheckCommand};
 ghost use Rattle.el_program.specs.Calls.{Call};
 ghost use Rattle.el_program.specs.AnyCall.{IsCall};
 ghost use Rattle.el_program.specs.Lives.{IsFresh};
 ghost use Rattle.el_program.specs.Program.{IsServing, IsChecking};
-ghost use Rattle.el_program.specs.Statuses.{code_of};
+ghost use Rattle.el_program.specs.Statuses.{exit_code};
 
 use crate::failures::{Failing, tell_cause, tell_commands};
 use crate::serving::serve;
@@ -97,7 +97,7 @@ fn disk_of(
     alloc: Global,
     command: &Command,
 ) -> Result<FileDisk<IndexFolder<HostRuntime>>, OutOfMemory>
-    ensures { IfOk result (λ disk. (disk.files ≡ index_of command.now) × (disk.faults ≡ 0)) }
+    ensures { IfOk result (λ disk. (disk.files ≡ folder_of_index command.now) × (disk.faults ≡ 0)) }
 {
     let folder = match command {
         Command::Serve(said) => said.index.as_str(),
@@ -225,7 +225,8 @@ fn serve_command<W: Threads + Sync>(
         × IsCall ⟦<FileDisk<IndexFolder<HostRuntime>> as Disk>⟧
         ⟦<BlockFiles<BlockFolder<HostRuntime>> as el_outside::Archive>⟧
         ⟦<DirRelay<RelayFolder<HostRuntime>> as el_outside::Relay>⟧ ⟦<TcpLink<HostRuntime> as Link>⟧ c
-        × (c.words ≡ texts words.now) × (c.turns ≡ 2 ^ 64 - 1) × (c.before.disk.files ≡ index_of command.now)
+        × (c.words ≡ texts words.now) × (c.turns ≡ 2 ^ 64 - 1)
+        × (c.before.disk.files ≡ folder_of_index command.now)
         × (c.before.files.folder ≡ folder_of command.now) × (c.before.link.asked ≡ ports_of command.now)
         × (c.before.relay.outbox ≡ relay_of command.now) × (c.status ≡ status)) }
     ensures streams { IsStreamsCommand command.now → IfOk result (λ status. (c : Call _ _ _ _)
@@ -239,7 +240,8 @@ fn serve_command<W: Threads + Sync>(
         ⟦<BlockFiles<BlockFolder<HostRuntime>> as el_outside::Archive>⟧
         ⟦<DirRelay<RelayFolder<HostRuntime>> as el_outside::Relay>⟧
         ⟦<StandardLink<HostRuntime> as Link>⟧ c
-        × (c.words ≡ texts words.now) × (c.turns ≡ 2 ^ 64 - 1) × (c.before.disk.files ≡ index_of command.now)
+        × (c.words ≡ texts words.now) × (c.turns ≡ 2 ^ 64 - 1)
+        × (c.before.disk.files ≡ folder_of_index command.now)
         × (c.before.files.folder ≡ folder_of command.now) × (c.status ≡ status)) }
     ensures check { IsCheckCommand command.now → IfOk result (λ status. (c : Call _ _ _ _)
         × IsCall ⟦<MemDisk as Disk>⟧ ⟦<NoFiles as el_outside::Archive>⟧ ⟦<NoRelay as el_outside::Relay>⟧
@@ -356,7 +358,7 @@ pub fn serve_all<W: Threads + Sync>(rt: &HostRuntime, threads: &W) -> Status
 
 /// Tells on standard error how the program ended, and gives its exit status.
 pub fn tell_end(rt: &HostRuntime, status: Status) -> ExitCode
-    ensures { exit_status result ≡ code_of status }
+    ensures { exit_status result ≡ exit_code status }
 {
     let _ = eprint!(rt; "{}", status.line());
     ExitCode::from(status.code())

@@ -4,7 +4,7 @@ ghost use Rattle.el_loop.specs.Traffic.{Traffic};
 ghost use Rattle.el_side.specs.Deeds.{faults};
 ghost use Rattle.el_loop.specs.Counts.{counts};
 ghost use Rattle.el_loop.specs.Traffic.{WentBy};
-ghost use Rattle.el_words.specs.Proofs.{IsProofOf};
+ghost use Rattle.el_words.specs.Proofs.{SayProof};
 ghost use Rattle.el_words.specs.Words.{texts};
 ghost use Rattle.el_words.specs.declared.words.ProofWords as shape;
 ghost use Rattle.el_program.specs.Audits.{IsSendEnd, IsVerdict};
@@ -37,11 +37,13 @@ fn tell<K: Link>(said: &ProofWords, link: &mut K) -> Status
     ensures ends { (turns of_files of_disk of_relay : ℕ) → (t : Traffic)
         × WentBy ⟦<K as Link>⟧ link.old link.new t
         × SummaryEnds (IsVerdict said.now) (counts turns (K.calls link.old) (K.calls link.new)
-        (faults (K.faults link.old) of_files of_disk of_relay) (faults (K.faults link.new) of_files of_disk of_relay)) t
+        (faults (K.faults link.old) of_files of_disk of_relay)
+        (faults (K.faults link.new) of_files of_disk of_relay)) t
         result }
     ensures causes { (turns of_files of_disk of_relay : ℕ) → ShowsCause
         (counts turns (K.calls link.old) (K.calls link.new)
-        (faults (K.faults link.old) of_files of_disk of_relay) (faults (K.faults link.new) of_files of_disk of_relay))
+        (faults (K.faults link.old) of_files of_disk of_relay)
+        (faults (K.faults link.new) of_files of_disk of_relay))
         result }
     ensures sent { IsSendEnd result }
 {
@@ -52,18 +54,21 @@ fn tell<K: Link>(said: &ProofWords, link: &mut K) -> Status
 /// called. Other words are refused.
 pub fn serve_proof<K: Link>(alloc: Global, words: &[String], link: &mut K) -> Status
     // How often calls of the other devices failed changes nothing here.
-    ensures ends { (turns of_files of_disk of_relay : ℕ) (said : shape.ProofWords) → IsProofOf (texts words.now) said
+    ensures ends { (turns of_files of_disk of_relay : ℕ) (said : shape.ProofWords)
+        → SayProof (texts words.now) said
         → (t : Traffic) × WentBy ⟦<K as Link>⟧ link.old link.new t
         × SummaryEnds (IsVerdict said) (counts turns (K.calls link.old) (K.calls link.new)
-        (faults (K.faults link.old) of_files of_disk of_relay) (faults (K.faults link.new) of_files of_disk of_relay)) t
+        (faults (K.faults link.old) of_files of_disk of_relay)
+        (faults (K.faults link.new) of_files of_disk of_relay)) t
         result }
     ensures causes { (turns of_files of_disk of_relay : ℕ) → ShowsCause
         (counts turns (K.calls link.old) (K.calls link.new)
-        (faults (K.faults link.old) of_files of_disk of_relay) (faults (K.faults link.new) of_files of_disk of_relay))
+        (faults (K.faults link.old) of_files of_disk of_relay)
+        (faults (K.faults link.new) of_files of_disk of_relay))
         result }
-    ensures refused { ((said : shape.ProofWords) → IsProofOf (texts words.now) said → ⊥)
+    ensures refused { ((said : shape.ProofWords) → SayProof (texts words.now) said → ⊥)
         → (result ≡ Status.Usage) × (link.new ≡ link.old) }
-    ensures lawful { result ≡ Status.Usage → (said : shape.ProofWords) → IsProofOf (texts words.now) said → ⊥ }
+    ensures lawful { result ≡ Status.Usage → (said : shape.ProofWords) → SayProof (texts words.now) said → ⊥ }
     ensures no_index { result ≢ Status.BadIndex }
     ensures no_disk { result ≢ Status.DiskFailed }
     ensures unserved { IsUnserved result → link.new ≡ link.old }

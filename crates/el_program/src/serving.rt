@@ -15,7 +15,7 @@ ghost use Rattle.el_program.specs.AnyCall.{IsCall};
 ghost use Rattle.el_program.specs.Audits.{AsksIndex};
 ghost use Rattle.el_loop.specs.Counts.{counts_of, devices};
 ghost use Rattle.el_program.specs.Calls.{call};
-ghost use Rattle.el_program.specs.OtherFiles.{OthersStay};
+ghost use Rattle.el_program.specs.OtherFiles.{OtherFilesStay};
 ghost use Rattle.el_program.specs.Opened.{IndexChain, IsRead, all_added};
 ghost use Rattle.el_program.specs.Statuses.{ShowsCause};
 ghost use Rattle.el_loop.specs.Traffic.{WentBy, WentTo};
@@ -106,7 +106,8 @@ fn serve_disk<W: Threads + Sync, D: Disk, N: NetworkMagic, A: Archive, Y: Relay,
         → (traffic : Traffic)
         × (WentBy ⟦<K as Link>⟧ link.old link.new traffic × WentTo ⟦<Y as Relay>⟧ relay.old relay.new traffic)
         × IndexEnds ⟦<A as Archive>⟧ N.magic limits relays was flight index
-        (LeavesOneOf ⟦<D as Disk>⟧ N.magic result.1) (counts_of D.faults ⟦<A as Archive>⟧ ⟦<Y as Relay>⟧ ⟦<K as Link>⟧ turns
+        (LeavesOneOf ⟦<D as Disk>⟧ N.magic result.1)
+        (counts_of D.faults ⟦<A as Archive>⟧ ⟦<Y as Relay>⟧ ⟦<K as Link>⟧ turns
         (devices disk archive.old relay.old link.old) (devices result.1 archive.new relay.new link.new))
         archive.old archive.new traffic result.0 }
     ensures bad { D.tells → result.0 ≡ Status.BadIndex → IsNoIndex N.magic (D.seen disk) }
@@ -115,9 +116,10 @@ fn serve_disk<W: Threads + Sync, D: Disk, N: NetworkMagic, A: Archive, Y: Relay,
     ensures kept { D.tells → IsNoIndex N.magic (D.seen disk) → IsAsBefore ⟦<D as Disk>⟧ disk result.1 }
     ensures kept_counts { result.0 ≡ Status.BadIndex → D.faults result.1 ≡ D.faults disk }
     ensures kept_files { result.0 ≡ Status.BadIndex → archive.new ≡ archive.old }
-    ensures others { D.tells → OthersStay ⟦<D as Disk>⟧ disk result.1 }
+    ensures others { D.tells → OtherFilesStay ⟦<D as Disk>⟧ disk result.1 }
     ensures causes { ShowsCause (counts_of D.faults ⟦<A as Archive>⟧ ⟦<Y as Relay>⟧ ⟦<K as Link>⟧ turns
-        (devices disk archive.old relay.old link.old) (devices result.1 archive.new relay.new link.new)) result.0 }
+        (devices disk archive.old relay.old link.old) (devices result.1 archive.new relay.new link.new))
+        result.0 }
     ensures read { result.0 ≢ Status.Usage }
     ensures unserved { IsUnserved result.0 → (link.new ≡ link.old) × (relay.new ≡ relay.old) }
     ensures keeps { A.tells → AllGrow (A.bytes archive.old) (A.bytes archive.new) }
@@ -177,9 +179,10 @@ fn serve_network<W: Threads + Sync, D: Disk, A: Archive, Y: Relay, K: Link, V: W
         → IsAsBefore ⟦<D as Disk>⟧ disk result.1 }
     ensures kept_counts { result.0 ≡ Status.BadIndex → D.faults result.1 ≡ D.faults disk }
     ensures kept_files { result.0 ≡ Status.BadIndex → archive.new ≡ archive.old }
-    ensures others { D.tells → OthersStay ⟦<D as Disk>⟧ disk result.1 }
+    ensures others { D.tells → OtherFilesStay ⟦<D as Disk>⟧ disk result.1 }
     ensures causes { ShowsCause (counts_of D.faults ⟦<A as Archive>⟧ ⟦<Y as Relay>⟧ ⟦<K as Link>⟧ turns
-        (devices disk archive.old relay.old link.old) (devices result.1 archive.new relay.new link.new)) result.0 }
+        (devices disk archive.old relay.old link.old) (devices result.1 archive.new relay.new link.new))
+        result.0 }
     ensures read { result.0 ≢ Status.Usage }
     ensures unserved { IsUnserved result.0 → (link.new ≡ link.old) × (relay.new ≡ relay.old) }
     ensures keeps { A.tells → AllGrow (A.bytes archive.old) (A.bytes archive.new) }
@@ -210,10 +213,12 @@ fn serve_file<W: Threads + Sync, A: Archive, Y: Relay, K: Link>(
 ) -> Status
     ensures ends { (disk : ℕ) → (traffic : Traffic)
         × (WentBy ⟦<K as Link>⟧ link.old link.new traffic × WentTo ⟦<Y as Relay>⟧ relay.old relay.new traffic)
-        × OnceEnds ⟦<A as Archive>⟧ magic (counts_of (λ d. d) ⟦<A as Archive>⟧ ⟦<Y as Relay>⟧ ⟦<K as Link>⟧ turns
+        × OnceEnds ⟦<A as Archive>⟧ magic
+        (counts_of (λ d. d) ⟦<A as Archive>⟧ ⟦<Y as Relay>⟧ ⟦<K as Link>⟧ turns
         (devices disk archive.old relay.old link.old) (devices disk archive.new relay.new link.new))
         (A.bytes archive.old) (A.bytes archive.new) traffic result }
-    ensures causes { (disk : ℕ) → ShowsCause (counts_of (λ d. d) ⟦<A as Archive>⟧ ⟦<Y as Relay>⟧ ⟦<K as Link>⟧ turns
+    ensures causes { (disk : ℕ)
+        → ShowsCause (counts_of (λ d. d) ⟦<A as Archive>⟧ ⟦<Y as Relay>⟧ ⟦<K as Link>⟧ turns
         (devices disk archive.old relay.old link.old) (devices disk archive.new relay.new link.new)) result }
     ensures unserved { IsUnserved result → (link.new ≡ link.old) × (relay.new ≡ relay.old) }
     ensures keeps { A.tells → AllGrow (A.bytes archive.old) (A.bytes archive.new) }
@@ -265,8 +270,10 @@ pub fn serve<W: Threads + Sync, D: Disk, A: Archive, Y: Relay, K: Link, V: Watch
     // cause, and what a crash may leave in the end is the chain that is acknowledged or the one in flight.
     // With the words of `check-chain`, over a disk whose files are empty, of `audit` or of `prove-check`, the
     // line of that command was sent, or nothing.
-    ensures ends { IsCall ⟦<D as Disk>⟧ ⟦<A as Archive>⟧ ⟦<Y as Relay>⟧ ⟦<K as Link>⟧ (call (texts words.now) turns
-        (devices disk archive.old relay.old link.old) (devices result.1 archive.new relay.new link.new) result.0) }
+    ensures ends { IsCall ⟦<D as Disk>⟧ ⟦<A as Archive>⟧ ⟦<Y as Relay>⟧ ⟦<K as Link>⟧
+        (call (texts words.now) turns
+        (devices disk archive.old relay.old link.old) (devices result.1 archive.new relay.new link.new)
+        result.0) }
     // The index is bad exactly where the disk is none of the network, in the format that is live.
     ensures bad { D.tells → result.0 ≡ Status.BadIndex → (magic : List ℕ) → AsksIndex (texts words.now) magic
         → IsNoIndex magic (D.seen disk) }
@@ -278,10 +285,11 @@ pub fn serve<W: Threads + Sync, D: Disk, A: Archive, Y: Relay, K: Link, V: Watch
     ensures kept_counts { result.0 ≡ Status.BadIndex → D.faults result.1 ≡ D.faults disk }
     ensures kept_files { result.0 ≡ Status.BadIndex → archive.new ≡ archive.old }
     // However it ends, no file of the disk beyond the index's changed.
-    ensures others { D.tells → OthersStay ⟦<D as Disk>⟧ disk result.1 }
+    ensures others { D.tells → OtherFilesStay ⟦<D as Disk>⟧ disk result.1 }
     // Whatever the devices tell, a failure that ends the run was counted.
     ensures causes { ShowsCause (counts_of D.faults ⟦<A as Archive>⟧ ⟦<Y as Relay>⟧ ⟦<K as Link>⟧ turns
-        (devices disk archive.old relay.old link.old) (devices result.1 archive.new relay.new link.new)) result.0 }
+        (devices disk archive.old relay.old link.old) (devices result.1 archive.new relay.new link.new))
+        result.0 }
     // Other words are refused, and then no device is called.
     ensures refused { IsNoCommand (texts words.now) → result.0 ≡ Status.Usage }
     ensures lawful { result.0 ≡ Status.Usage → IsNoCommand (texts words.now) }

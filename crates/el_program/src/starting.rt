@@ -58,7 +58,8 @@ pub fn serve_index<W: Threads + Sync, G: Ledger, A: Archive, Y: Relay, K: Link>(
         (devices ledger archive.old relay.old link.old) (devices result.1 archive.new relay.new link.new))
         archive.old archive.new traffic result.0 }
     ensures causes { ShowsCause (counts_of G.faults ⟦<A as Archive>⟧ ⟦<Y as Relay>⟧ ⟦<K as Link>⟧ turns
-        (devices ledger archive.old relay.old link.old) (devices result.1 archive.new relay.new link.new)) result.0 }
+        (devices ledger archive.old relay.old link.old) (devices result.1 archive.new relay.new link.new))
+        result.0 }
     ensures opened { IsOpenedEnd result.0 }
     ensures unserved { IsUnserved result.0 → (link.new ≡ link.old) × (relay.new ≡ relay.old) }
     ensures keeps { A.tells → AllGrow (A.bytes archive.old) (A.bytes archive.new) }

@@ -1,6 +1,6 @@
 // How the program ends.
 ghost use Rattle.std.specs.Prelude.{◌≡◌};
-ghost use Rattle.el_program.specs.Statuses.{code_of, line_of, status_of_end};
+ghost use Rattle.el_program.specs.Statuses.{exit_code, line_of, status_of_end};
 
 use el_loop::End;
 
@@ -49,7 +49,7 @@ impl Status {
 
     /// The exit status of the program.
     pub fn code(self) -> u8
-        ensures { result ≡ code_of self }
+        ensures { result ≡ exit_code self }
     {
         match self {
             Status::Ended => 0,

@@ -12,7 +12,7 @@ use Rattle.el_chain.specs.Chains.{Chain}
 use Rattle.el_chain.specs.Coins.{coins, coins_after, coins_after_all}
 use Rattle.el_chain.specs.CoinLaws.{coins_made}
 use Rattle.el_chain.specs.History.{Position, positions, positions_in, positions_from, block_positions, first_start, funds, spends}
-use Rattle.el_chain.specs.RowCounts.{has_script, concerned_scripts, add_scripts}
+use Rattle.el_chain.specs.RowCounts.{is_script_among, concerned_scripts, add_scripts}
 use Rattle.el_chain.specs.Touches.{touches, touches_any, replaces}
 use Rattle.el_chain.proofs.GoodChains.{coins_more}
 use Rattle.el_chain.proofs.Tallies.{positions_more}
@@ -30,7 +30,7 @@ use Rattle.el_tables.proofs.Scripts.{AllIn, all_from, all_has, has_more, has_bac
 use Rattle.el_tables.proofs.TakeBack.{last_is}
 use Rattle.el_tables.proofs.UndoneBlocks.{row_more}
 use Rattle.el_queries.specs.TouchedBy.{touched_in}
-use Rattle.el_queries.specs.within.LastBlock.{is_entry_of, buries, AreLast}
+use Rattle.el_queries.specs.within.LastBlock.{is_entry_of_script, buries, AreLast}
 use Rattle.el_queries.proofs.Law.{true_false, any_joined, Follow, follow_chain, law}
 use Rattle.el_queries.proofs.Burials.{at_number, own_kept, all_buried, replaced_kept}
 
@@ -40,21 +40,21 @@ flat_joined : (ps qs : List Position) → flat_map concerned_scripts (ps ++ qs) 
 flat_joined [] qs = refl
 flat_joined (p ∷ ps) qs = let rest = flat_joined ps qs in rw rest (sym (append_assoc (concerned_scripts p) (flat_map concerned_scripts ps) (flat_map concerned_scripts qs)))
 
-entries_has : (s : Hash32) (l : Lists) (n : ℕ) (ss : List Hash32) → AllIn l.scripts ss → list_any (is_entry_of s l) (map (entry_of l.scripts n) ss) ≡ has_script s ss
+entries_has : (s : Hash32) (l : Lists) (n : ℕ) (ss : List Hash32) → AllIn l.scripts ss → list_any (is_entry_of_script s l) (map (entry_of l.scripts n) ss) ≡ is_script_among s ss
 entries_has s l n [] all = refl
 entries_has s l n (x ∷ xs) all = ap₂ (λ (a b : Bool). a || b) (at_number s x l.scripts all.0) (entries_has s l n xs all.1)
 
-once_has : (s : Hash32) (ss : List Hash32) → has_script s (add_scripts [] ss) ≡ has_script s ss
-once_has s ss = elim (cases_Bool (has_script s ss)) [
+once_has : (s : Hash32) (ss : List Hash32) → is_script_among s (add_scripts [] ss) ≡ is_script_among s ss
+once_has s ss = elim (cases_Bool (is_script_among s ss)) [
   | inl h ↦ gather_has ss [] s h ∙ sym h
-  | inr h ↦ elim (cases_Bool (has_script s (add_scripts [] ss))) [
+  | inr h ↦ elim (cases_Bool (is_script_among s (add_scripts [] ss))) [
     | inl e ↦ absurd (true_false (sym (gathered ss s e) ∙ h))
     | inr e ↦ e ∙ sym h
   ]
 ]
 
 one_concerns : (s : Hash32) (l : Lists) (n : ℕ) (p : Position) → AllIn l.scripts (concerned_scripts p)
-    → list_any (is_entry_of s l) (map (entry_of l.scripts n) (add_scripts [] (concerned_scripts p))) ≡ (funds s.0 p.tx || spends s.0 p.before p.tx)
+    → list_any (is_entry_of_script s l) (map (entry_of l.scripts n) (add_scripts [] (concerned_scripts p))) ≡ (funds s.0 p.tx || spends s.0 p.before p.tx)
 one_concerns s l n p all =
     entries_has s l n (add_scripts [] (concerned_scripts p)) (all_from l.scripts (add_scripts [] (concerned_scripts p)) (λ t h. all_has l.scripts (concerned_scripts p) t all (gathered (concerned_scripts p) t h)))
     ∙ once_has s (concerned_scripts p) ∙ met_is s p
@@ -68,7 +68,7 @@ three false false r k h = h refl
 
 one_touches : (s : Hash32) (ps qs : List Position) (p : Position) → p.before ≡ coins_of (outputs ps)
     → touches s.0 p.before p.tx
-    ≡ (list_any (is_entry_of s (lists_of (ps ++ p ∷ qs))) (map (entry_of (scripts_of (ps ++ p ∷ qs)) (length ps)) (add_scripts [] (concerned_scripts p)))
+    ≡ (list_any (is_entry_of_script s (lists_of (ps ++ p ∷ qs))) (map (entry_of (scripts_of (ps ++ p ∷ qs)) (length ps)) (add_scripts [] (concerned_scripts p)))
     || buries s (lists_of (ps ++ p ∷ qs)) (length ps))
 one_touches s ps qs p coins_are =
     let all = ps ++ p ∷ qs in
@@ -96,22 +96,22 @@ mixed false false c d = refl
 
 pub all_touch : (s : Hash32) (all front back : List Position) (m : ℕ) → all ≡ front ++ back → m ≡ length front → Follow (coins_of (outputs front)) back
     → list_any (λ (p : Position). touches s.0 p.before p.tx) back
-    ≡ (list_any (is_entry_of s (lists_of all)) (entries_from (scripts_of all) m back) || list_any (buries s (lists_of all)) (numbers_from m (length back)))
+    ≡ (list_any (is_entry_of_script s (lists_of all)) (entries_from (scripts_of all) m back) || list_any (buries s (lists_of all)) (numbers_from m (length back)))
 all_touch s all front [] m split at follow = refl
 all_touch s all front (p ∷ back) m split at follow =
     let split_next : all ≡ (front ++ p ∷ []) ++ back = split ∙ sym (append_assoc front (p ∷ []) back) in
     let at_next : m + 1 ≡ length (front ++ p ∷ []) = (let long = length-append front (p ∷ []) in omega arith) in
     let follow_next = subst (λ (cs : List Coin). Follow cs back) (ap (coins_after p.height p.tx) refl ∙ sym (coins_step front p)) follow.1 in
     let rest = all_touch s all (front ++ p ∷ []) back (m + 1) split_next at_next follow_next in
-    let E = λ (ps : List Position) (n : ℕ). list_any (is_entry_of s (lists_of ps)) (map (entry_of (scripts_of ps) n) (add_scripts [] (concerned_scripts p))) in
+    let E = λ (ps : List Position) (n : ℕ). list_any (is_entry_of_script s (lists_of ps)) (map (entry_of (scripts_of ps) n) (add_scripts [] (concerned_scripts p))) in
     let B = λ (ps : List Position) (n : ℕ). buries s (lists_of ps) n in
     let one : touches s.0 p.before p.tx ≡ (E all m || B all m) =
     one_touches s front back p follow.0
     ∙ ap₂ (λ (ps : List Position) (n : ℕ). E ps n || B ps n) (sym split) (sym at) in
     ap₂ (λ (a b : Bool). a || b) one rest
-    ∙ mixed (E all m) (B all m) (list_any (is_entry_of s (lists_of all)) (entries_from (scripts_of all) (m + 1) back)) (list_any (buries s (lists_of all)) (numbers_from (m + 1) (length back)))
+    ∙ mixed (E all m) (B all m) (list_any (is_entry_of_script s (lists_of all)) (entries_from (scripts_of all) (m + 1) back)) (list_any (buries s (lists_of all)) (numbers_from (m + 1) (length back)))
     ∙ ap (λ (x : Bool). x || (B all m || list_any (buries s (lists_of all)) (numbers_from (m + 1) (length back))))
-    (sym (any_joined (is_entry_of s (lists_of all)) (map (entry_of (scripts_of all) m) (add_scripts [] (concerned_scripts p))) (entries_from (scripts_of all) (m + 1) back)))
+    (sym (any_joined (is_entry_of_script s (lists_of all)) (map (entry_of (scripts_of all) m) (add_scripts [] (concerned_scripts p))) (entries_from (scripts_of all) (m + 1) back)))
 
 -- 4. Which entries are the last
 
@@ -182,7 +182,7 @@ pub record TellsFrom (s : Hash32) (base bs : Chain) (first : ℕ) : Type 0 where
   pub last : AreLast first before own
   pub long : length before ≡ length (lists base).entries
   pub is : touches_any s.0 (coins base) bs
-      ≡ (list_any (is_entry_of s (lists (base ++ bs))) own
+      ≡ (list_any (is_entry_of_script s (lists (base ++ bs))) own
       || list_any (buries s (lists (base ++ bs))) (numbers_from first (length (lists (base ++ bs)).txs - first)))
 
 pub told_from : (s : Hash32) (base bs : Chain) → TellsFrom s base bs (length (positions base))
@@ -201,7 +201,7 @@ told_from s base bs =
       last = record { below = entries_below m (scripts_of all) 0 front (omega arith); from = entries_at m (scripts_of all) m back (omega arith) };
       long = entries_long (scripts_of all) (scripts_of front) 0 front;
       is = law s.0 (coins base) (length base) bs ∙ all_touch s all front back m split refl follow
-          ∙ ap (λ (n : ℕ). list_any (is_entry_of s (lists_of all)) (entries_from (scripts_of all) m back) || list_any (buries s (lists_of all)) (numbers_from m n)) (sym tells.1);
+          ∙ ap (λ (n : ℕ). list_any (is_entry_of_script s (lists_of all)) (entries_from (scripts_of all) m back) || list_any (buries s (lists_of all)) (numbers_from m n)) (sym tells.1);
     }
 
 -- where there are as few transactions as before, the blocks touch nothing
@@ -228,7 +228,7 @@ pub record TellsLast (s : Hash32) (chain : Chain) (b : Placed) (first : ℕ) : T
   pub split : (lists (chain ++ b ∷ [])).entries ≡ before ++ own
   pub last : AreLast first before own
   pub is : touched_in s chain b
-      ≡ (list_any (is_entry_of s (lists (chain ++ b ∷ []))) own
+      ≡ (list_any (is_entry_of_script s (lists (chain ++ b ∷ []))) own
       || list_any (buries s (lists (chain ++ b ∷ []))) (numbers_from first (length (lists (chain ++ b ∷ [])).txs - first)))
 
 pub last_told : (s : Hash32) (chain : Chain) (b : Placed) → TellsLast s chain b (length (positions chain))
@@ -246,7 +246,7 @@ last_told s chain b =
       split = tells.0;
       last = record { below = entries_below m (scripts_of all) 0 front (omega arith); from = entries_at m (scripts_of all) m back (omega arith) };
       is = all_touch s all front back m split refl follow
-          ∙ ap (λ (n : ℕ). list_any (is_entry_of s (lists_of all)) (entries_from (scripts_of all) m back) || list_any (buries s (lists_of all)) (numbers_from m n)) (sym tells.1);
+          ∙ ap (λ (n : ℕ). list_any (is_entry_of_script s (lists_of all)) (entries_from (scripts_of all) m back) || list_any (buries s (lists_of all)) (numbers_from m n)) (sym tells.1);
     }
 
 -- its first transaction

@@ -17,7 +17,7 @@ use Rattle.el_chain.specs.Coins.{is_coin_of}
 use Rattle.el_chain.specs.CoinLaws.{coins_made, makes, takes}
 use Rattle.el_chain.specs.Headers.{same_hash}
 use Rattle.el_chain.specs.History.{Position, has_own, spends}
-use Rattle.el_chain.specs.RowCounts.{has_script, spending_inputs}
+use Rattle.el_chain.specs.RowCounts.{is_script_among, spending_inputs}
 use Rattle.el_chain.proofs.CoinLists.{same_gives}
 use Rattle.el_chain.proofs.TouchLemmas.{same_turned}
 use Rattle.el_tables.specs.Lists.{ListedTx, ListedOut, State, is_unspent, output_number, script_number, txid_at}
@@ -124,7 +124,7 @@ at_get s d [] n lt = absurd (omega arith)
 at_get s d (x ∷ xs) zero lt = refl
 at_get s d (x ∷ xs) (suc n) lt = at_get s d xs n (omega arith)
 
-pub at_number : (s x : Hash32) (scripts : List Hash32) → has_script x scripts ≡ true → is_at s scripts (script_number x scripts) ≡ bytes_eq x.0 s.0
+pub at_number : (s x : Hash32) (scripts : List Hash32) → is_script_among x scripts ≡ true → is_at s scripts (script_number x scripts) ≡ bytes_eq x.0 s.0
 at_number s x scripts there =
     at_get s zero_hash scripts (script_number x scripts) (number_within x scripts there)
     ∙ ap (same_hash s) (number_at x zero_hash scripts there) ∙ same_turned s x
@@ -138,7 +138,7 @@ abbrev pub own_kept : List ℕ → List Coin → Tx → Outpoint → Bool
 own_kept s cs t o = has_own s cs o && not (takes o t)
 
 first_case : (s : Hash32) (scripts : List Hash32) (m n : ℕ) (o : Outpoint) (p : Position) (qs : List Position) (xs : List Output) (c : Coin) (st : State)
-    → makes_outpoint o p ≡ true → is_coin_of o c ≡ true → NoneLive o xs → is_buried_by m st ≡ false → has_script c.script scripts ≡ true
+    → makes_outpoint o p ≡ true → is_coin_of o c ≡ true → NoneLive o xs → is_buried_by m st ≡ false → is_script_among c.script scripts ≡ true
     → own_buried s m scripts (listed_out scripts (later_out m (p ∷ qs) (record { tx = n; coin = c; state = st }))) ≡ own_kept s.0 (coins_of (record { tx = n; coin = c; state = st } ∷ xs)) p.tx o
 first_case s scripts m n o p qs xs c Unspent made is none fresh there =
     let same = same_gives c.outpoint o is in

@@ -9,7 +9,7 @@ use Rattle.std.specs.List.{AllByRecursion}
 use Rattle.el_base.specs.declared.hash.Hash32.{Hash32}
 use Rattle.el_chain.specs.Chains.{Chain}
 use Rattle.el_chain.specs.History.{Position, positions, concerns, history}
-use Rattle.el_chain.specs.RowCounts.{has_script, spending_inputs, concerned_scripts, add_scripts}
+use Rattle.el_chain.specs.RowCounts.{is_script_among, spending_inputs, concerned_scripts, add_scripts}
 use Rattle.el_model.specs.Queries as asked
 use Rattle.el_tables.specs.ChainLists.{listed_position, txs_from, scripts_of, entry_of, entries_from, lists}
 use Rattle.el_tables.specs.Lists.{ListedTx, ListedEntry, script_number, is_of_script}
@@ -109,22 +109,22 @@ outs_along s scripts front a b n (p ∷ ps) at all =
     let rest = outs_along s scripts (front ++ t ∷ []) (a + length p.tx.outputs) (b + length (spending_inputs p.tx)) (n + 1) ps (let l = length-append front (t ∷ []) in omega arith) others in
     let moved = append_assoc front (t ∷ []) back in
     let later = filter (is_of_script k) (entries_from scripts (n + 1) ps) in
-    let split : filter (is_of_script k) (entries_from scripts n (p ∷ ps)) ≡ cond (has_script s (add_scripts [] (concerned_scripts p))) (entry_of scripts n s ∷ []) [] ++ later =
+    let split : filter (is_of_script k) (entries_from scripts n (p ∷ ps)) ≡ cond (is_script_among s (add_scripts [] (concerned_scripts p))) (entry_of scripts n s ∷ []) [] ++ later =
     filter-append (is_of_script k) (map (entry_of scripts n) (add_scripts [] (concerned_scripts p))) (entries_from scripts (n + 1) ps) ∙ ap (λ (es : List ListedEntry). es ++ later) one in
     let shown = outs_here front t back n at in
     let more : sum_by f later ≡ sum_by (λ (q : Position). length q.tx.outputs) (filter (concerns s.0) ps) = rw moved at rest in
-    elim (cases_Bool (has_script s (concerned_scripts p))) [
+    elim (cases_Bool (is_script_among s (concerned_scripts p))) [
       | inl h ↦
           let there = gather_has (concerned_scripts p) [] s h in
           let is : concerns s.0 p ≡ true = sym (met_is s p) ∙ h in
-          let mine_is : cond (has_script s (add_scripts [] (concerned_scripts p))) (entry_of scripts n s ∷ []) [] ++ later ≡ entry_of scripts n s ∷ later = rw there refl in
+          let mine_is : cond (is_script_among s (add_scripts [] (concerned_scripts p))) (entry_of scripts n s ∷ []) [] ++ later ≡ entry_of scripts n s ∷ later = rw there refl in
           let kept : filter (concerns s.0) (p ∷ ps) ≡ p ∷ filter (concerns s.0) ps = rw is refl in
           ap (sum_by f) (split ∙ mine_is) ∙ sum_by-cons f (entry_of scripts n s) later ∙ ap₂ (λ (x y : ℕ). x + y) shown more
           ∙ sym (sum_by-cons size p (filter (concerns s.0) ps)) ∙ ap (sum_by size) (sym kept)
       | inr h ↦
           let there = gather_only (concerned_scripts p) [] s refl h in
           let is : concerns s.0 p ≡ false = sym (met_is s p) ∙ h in
-          let mine_is : cond (has_script s (add_scripts [] (concerned_scripts p))) (entry_of scripts n s ∷ []) [] ++ later ≡ later = rw there refl in
+          let mine_is : cond (is_script_among s (add_scripts [] (concerned_scripts p))) (entry_of scripts n s ∷ []) [] ++ later ≡ later = rw there refl in
           let kept : filter (concerns s.0) (p ∷ ps) ≡ filter (concerns s.0) ps = rw is refl in
           ap (sum_by f) (split ∙ mine_is) ∙ more ∙ ap (sum_by size) (sym kept)
     ]

@@ -10,7 +10,7 @@ use Rattle.el_tables.specs.Lists.State.{Unspent, Spent, Buried}
 use Rattle.el_row_formats.specs.declared.out_row.OutRow.{OutRow}
 use Rattle.el_row_formats.specs.declared.out_row.State.TheVariants as out
 use Rattle.el_schema.specs.Rows.{out_fields, state_fields}
-use Rattle.el_queries.specs.within.Histories.{own_coin, outs_of}
+use Rattle.el_queries.specs.within.Histories.{own_coin, outs_of_tx}
 
 unspent_is : (s : listed.State) → state_fields s ≡ out.Unspent → is_unspent s ≡ true
 unspent_is Unspent e = refl
@@ -44,9 +44,9 @@ module _ (script : ℕ) (s : Hash32) (t : ListedTx) (i : ℕ) (x : ListedOut) (r
       rw (here, live) (ap (λ (v : ℕ). record { outpoint = record { txid = t.txid; index = i }; value = v; script = s; height = t.height } ∷ []) (sym (ap (λ (r : OutRow). r.value) is)))
 
 -- how many outputs of the transaction are there
-pub outs_long : (t : ListedTx) (outs : List ListedOut) → length (outs_of t outs) ≡ min t.outs (length outs - t.first_out)
+pub outs_long : (t : ListedTx) (outs : List ListedOut) → length (outs_of_tx t outs) ≡ min t.outs (length outs - t.first_out)
 outs_long t outs = length-take t.outs (drop t.first_out outs) ∙ ap (λ (n : ℕ). min t.outs n) (length-drop t.first_out outs)
 
 -- the output with that index
-pub out_at : (t : ListedTx) (outs : List ListedOut) (i : ℕ) → i < t.outs → get_or (outs_of t outs) i no_out ≡ get_or outs (t.first_out + i) no_out
+pub out_at : (t : ListedTx) (outs : List ListedOut) (i : ℕ) → i < t.outs → get_or (outs_of_tx t outs) i no_out ≡ get_or outs (t.first_out + i) no_out
 out_at t outs i lt = get_or-take t.outs (drop t.first_out outs) i no_out lt ∙ get_or-drop t.first_out outs i no_out

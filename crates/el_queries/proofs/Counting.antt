@@ -12,7 +12,7 @@ use Rattle.el_tx.specs.declared.types.TxOut.{TxOut}
 use Rattle.el_chain.specs.Chains.{Chain}
 use Rattle.el_chain.specs.Coins.{script_hash_of, is_coin_of, without, coin_made, spend_inputs, add_outputs, coins_left, coins_after, coins_after_all}
 use Rattle.el_chain.specs.History.{Position, positions_in, first_start, positions_from, positions}
-use Rattle.el_chain.specs.RowCounts.{has_script, add_script, add_scripts, spending_inputs, spent_scripts, output_script, concerned_scripts}
+use Rattle.el_chain.specs.RowCounts.{is_script_among, add_script, add_scripts, spending_inputs, spent_scripts, output_script, concerned_scripts}
 use Rattle.el_chain.specs.declared.coin.Coin.{Coin}
 use Rattle.el_model.specs.Queries as asked
 use Rattle.el_tables.specs.ChainLists.{lists, scripts_of}
@@ -93,10 +93,10 @@ one_more q c (y ∷ ys) there is = elim (cases_Bool (bytes_eq y c)) [
 abbrev pub AllAmong : List (List ℕ) → List Hash32 → Type 0
 AllAmong ys hs = AllByRecursion (λ (h : Hash32). is_among h.0 ys ≡ true) hs
 
-all_without : (c : Hash32) (ys : List (List ℕ)) (hs : List Hash32) → has_script c hs ≡ false → AllAmong ys hs → AllAmong (filter (λ z. not (bytes_eq z c.0)) ys) hs
+all_without : (c : Hash32) (ys : List (List ℕ)) (hs : List Hash32) → is_script_among c hs ≡ false → AllAmong ys hs → AllAmong (filter (λ z. not (bytes_eq z c.0)) ys) hs
 all_without c ys [] none all = tt
 all_without c ys (h ∷ hs) none all =
-    let parts = or_parts (bytes_eq h.0 c.0) (has_script c hs) none in
+    let parts = or_parts (bytes_eq h.0 c.0) (is_script_among c hs) none in
     (among_without h.0 c.0 ys parts.0 all.0, all_without c ys hs parts.1 all.1)
 
 -- so many of different ones pass a test at most
@@ -220,7 +220,7 @@ module _ (ys : List (List ℕ)) where
 
   gathered_among : (ss xs : List Hash32) → AllByRecursion Among xs → AllByRecursion Among ss → AllByRecursion Among (add_scripts xs ss)
   gathered_among [] xs have more = have
-  gathered_among (s ∷ ss) xs have more = gathered_among ss (add_script s xs) (elim (cases_Bool (has_script s xs)) [
+  gathered_among (s ∷ ss) xs have more = gathered_among ss (add_script s xs) (elim (cases_Bool (is_script_among s xs)) [
     | inl e ↦ rw e have
     | inr e ↦ rw e (all_more Among xs s have more.0)
   ]) more.1

@@ -29,11 +29,11 @@ use Rattle.el_schema.specs.Rows.{Hold, out_fields, state_fields, tx_fields, scri
 use Rattle.el_schema.proofs.Held.{no_tx, count_txs, count_tx_heads}
 use Rattle.el_schema.specs.Standing.{HoldChain}
 use Rattle.el_schema.proofs.Answered.{if_ok}
-use Rattle.el_spend.specs.Outputs.{output_at, named_among}
+use Rattle.el_spend.specs.Outputs.{output_numbered, named_among}
 use Rattle.el_spend.specs.declared.lookup.NamedOutput.{NamedOutput}
 use Rattle.el_spend.proofs.Found.{named_gives, named_none, coin_here, coin_gone_here, coin_nowhere, coin_by, coin_number_is, coin_number_none}
 use Rattle.el_schema.proofs.Rows.{found_at, get_past, listed_row, row_within}
-use Rattle.el_queries.specs.within.Lookups.{output_of, coin_in}
+use Rattle.el_queries.specs.within.Lookups.{output_for_outpoint, coin_of_row}
 
 -- 1. An output that was found
 
@@ -51,19 +51,19 @@ listed_of outs x e = by (slice_get outs x.number) refl e
     by (Some z) here f = record { z = z; here = here; is = cc }
 
 -- among as many transactions as there are, an outpoint names what it names among all
-pub among_all : (o : Outpoint) (n : ℕ) (l : Lists) → n ≡ length l.txs → named_among o n l ≡ option_and_then (output_at l.outs) (output_number o l.txs)
-among_all o n l is = ap (λ (ts : List ListedTx). option_and_then (output_at l.outs) (output_number o ts)) (take_all n l.txs (omega arith))
+pub among_all : (o : Outpoint) (n : ℕ) (l : Lists) → n ≡ length l.txs → named_among o n l ≡ option_and_then (output_numbered l.outs) (output_number o l.txs)
+among_all o n l is = ap (λ (ts : List ListedTx). option_and_then (output_numbered l.outs) (output_number o ts)) (take_all n l.txs (omega arith))
 
 -- 2. The coin
 
-pub coin_told : (chain : Chain) (o : Outpoint) (x : NamedOutput) → Some x ≡ output_of o (lists chain)
-    → x.row.state ≡ out.Unspent → Some (coin_in o (lists chain) x.row) ≡ asked.coin_of chain o
+pub coin_told : (chain : Chain) (o : Outpoint) (x : NamedOutput) → Some x ≡ output_for_outpoint o (lists chain)
+    → x.row.state ≡ out.Unspent → Some (coin_of_row o (lists chain) x.row) ≡ asked.coin_of chain o
 coin_told chain o x e is =
     let l = lists chain in
     let number = (coin_number_is l.outs (output_number o l.txs) x (coin_here l.outs (output_number o l.txs) x e is)).0 in
     let listed = listed_of l.outs x (named_gives l.outs (output_number o l.txs) x e).1 in
     let found : listed_coin o l ≡ Some (shown_coin o l listed.z) = ap (option_map (shown_coin o l)) (ap (option_and_then (λ k. slice_get l.outs k)) number ∙ listed.here) in
-    ap Some (ap (coin_in o l) listed.is) ∙ sym (coin_answers chain o ∙ found)
+    ap Some (ap (coin_of_row o l) listed.is) ∙ sym (coin_answers chain o ∙ found)
 
 no_coin : (chain : Chain) (o : Outpoint) → None ≡ coin_by (lists chain).outs (output_number o (lists chain).txs) → None ≡ asked.coin_of chain o
 no_coin chain o e =
@@ -71,11 +71,11 @@ no_coin chain o e =
     let none = coin_number_none l.outs (output_number o l.txs) e in
     sym (coin_answers chain o ∙ ap (option_map (shown_coin o l)) (ap (option_and_then (λ k. slice_get l.outs k)) none))
 
-pub gone_told : (chain : Chain) (o : Outpoint) (x : NamedOutput) → Some x ≡ output_of o (lists chain)
+pub gone_told : (chain : Chain) (o : Outpoint) (x : NamedOutput) → Some x ≡ output_for_outpoint o (lists chain)
     → x.row.state ≢ out.Unspent → None ≡ asked.coin_of chain o
 gone_told chain o x e isnt = no_coin chain o (coin_gone_here (lists chain).outs (output_number o (lists chain).txs) x e isnt)
 
-pub none_told : (chain : Chain) (o : Outpoint) → None ≡ output_of o (lists chain) → None ≡ asked.coin_of chain o
+pub none_told : (chain : Chain) (o : Outpoint) → None ≡ output_for_outpoint o (lists chain) → None ≡ asked.coin_of chain o
 none_told chain o e = no_coin chain o (coin_nowhere (lists chain).outs (output_number o (lists chain).txs) e)
 
 -- 3. What an output names is there
@@ -101,7 +101,7 @@ at_number P [] k z all e = absurd cc
 at_number P (x ∷ xs) zero z all e = let same : x ≡ z = cc in subst P same all.0
 at_number P (x ∷ xs) (suc k) z all e = at_number P xs k z all.1 e
 
-pub parts_there : (chain : Chain) (o : Outpoint) (x : NamedOutput) → Some x ≡ output_of o (lists chain)
+pub parts_there : (chain : Chain) (o : Outpoint) (x : NamedOutput) → Some x ≡ output_for_outpoint o (lists chain)
     → (x.row.script < length (lists chain).scripts) × (x.row.tx < length (lists chain).txs)
 parts_there chain o x e =
     let l = lists chain in
@@ -116,7 +116,7 @@ parts_there chain o x e =
 
 -- 4. What became of it
 
-state_told : (chain : Chain) (o : Outpoint) (x : NamedOutput) → Some x ≡ output_of o (lists chain)
+state_told : (chain : Chain) (o : Outpoint) (x : NamedOutput) → Some x ≡ output_for_outpoint o (lists chain)
     → (s : State) × (listed_state o (lists chain) ≡ Some s) × (x.row.state ≡ state_fields s)
 state_told chain o x e =
     let l = lists chain in
@@ -135,7 +135,7 @@ spent_by_none txs (Spent n) isnt = absurd (isnt n refl)
 spent_by_none txs (Buried n) isnt = refl
 
 -- the transaction that took it
-pub spender_told : (chain : Chain) (o : Outpoint) (x : NamedOutput) (by : ℕ) → IsGood chain → Some x ≡ output_of o (lists chain)
+pub spender_told : (chain : Chain) (o : Outpoint) (x : NamedOutput) (by : ℕ) → IsGood chain → Some x ≡ output_for_outpoint o (lists chain)
     → x.row.state ≡ out.Spent by → spender_by (lists chain).txs (Spent by) ≡ asked.spender chain o
 spender_told chain o x by good e is =
     let l = lists chain in
@@ -144,20 +144,20 @@ spender_told chain o x by good e is =
     sym (spender_answers chain o good ∙ ap (option_and_then (spender_by l.txs)) s.1 ∙ ap (spender_by l.txs) same)
 
 -- nobody did
-pub unspent_told : (chain : Chain) (o : Outpoint) (x : NamedOutput) → IsGood chain → Some x ≡ output_of o (lists chain)
+pub unspent_told : (chain : Chain) (o : Outpoint) (x : NamedOutput) → IsGood chain → Some x ≡ output_for_outpoint o (lists chain)
     → ((by : ℕ) → x.row.state ≡ out.Spent by → ⊥) → None ≡ asked.spender chain o
 unspent_told chain o x good e isnt =
     let l = lists chain in
     let s = state_told chain o x e in
     spent_by_none l.txs s.0 (λ by f. isnt by (s.2 ∙ f)) ∙ sym (spender_answers chain o good ∙ ap (option_and_then (spender_by l.txs)) s.1)
 
-pub unnamed_told : (chain : Chain) (o : Outpoint) → IsGood chain → None ≡ output_of o (lists chain) → None ≡ asked.spender chain o
+pub unnamed_told : (chain : Chain) (o : Outpoint) → IsGood chain → None ≡ output_for_outpoint o (lists chain) → None ≡ asked.spender chain o
 unnamed_told chain o good e =
     let l = lists chain in
     let none : listed_state o l ≡ None = ap (option_map (λ (y : ListedOut). y.state)) (by (output_number o l.txs) e) in
     sym (spender_answers chain o good ∙ ap (option_and_then (spender_by l.txs)) none)
   where
-    by : (r : Option ℕ) → None ≡ option_and_then (output_at (lists chain).outs) r → option_and_then (λ k. slice_get (lists chain).outs k) r ≡ None
+    by : (r : Option ℕ) → None ≡ option_and_then (output_numbered (lists chain).outs) r → option_and_then (λ k. slice_get (lists chain).outs k) r ≡ None
     by None f = refl
     by (Some k) f = named_none (lists chain).outs (Some k) k f refl
 
@@ -193,7 +193,7 @@ script_told count n l r e =
 pub coin_by_rows : (a b : ℕ) (o : Outpoint) (l : Lists) (row : OutRow) (tx : TxRow) (script : ScriptRow)
     → Some tx ≡ option_map tx_fields (slice_get (rows_from (tx_row a l.txs) 0 l.txs) row.tx)
     → Some script ≡ option_map script_fields (slice_get (rows_from (script_row b l) 0 l.scripts) row.script)
-    → Some (record { outpoint = o; value = row.value; script = script.script; height = tx.height }) ≡ Some (coin_in o l row)
+    → Some (record { outpoint = o; value = row.value; script = script.script; height = tx.height }) ≡ Some (coin_of_row o l row)
 coin_by_rows a b o l row tx script e f =
     let height_is = height_told a row.tx l.txs tx e in
     let script_is = script_told b row.script l script f in
@@ -203,7 +203,7 @@ coin_by_rows a b o l row tx script e f =
 
 pub output_in : {E : Type 0} (heads : ℕ) (chain : Chain) (shown : held.Tables) (o : Outpoint) (n : ℕ) (r : Result (Option NamedOutput) E) → 0 < heads → HoldChain heads shown chain → n ≡ length (shown table.Txs)
     → ((counts : HeadCounts) (bs : List ListedBlock) (l : Lists) → Hold counts bs l shown → 0 < counts.txs → IfOk r (λ f. f ≡ named_among o n l))
-    → IfOk r (λ f. f ≡ output_of o (lists chain))
+    → IfOk r (λ f. f ≡ output_for_outpoint o (lists chain))
 output_in heads chain shown o n r some hold many named =
     let counts = in_both heads in
     let blocks = listed_blocks chain in

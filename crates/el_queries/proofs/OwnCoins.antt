@@ -8,7 +8,7 @@ use Rattle.el_base.specs.declared.hash.Hash32.{Hash32}
 use Rattle.el_chain.specs.Chains.{Chain, zero_hash}
 use Rattle.el_chain.specs.CoinLaws.{makes}
 use Rattle.el_chain.specs.History.{Position, positions}
-use Rattle.el_chain.specs.RowCounts.{has_script, spending_inputs}
+use Rattle.el_chain.specs.RowCounts.{is_script_among, spending_inputs}
 use Rattle.el_chain.specs.declared.coin.Coin.{Coin}
 use Rattle.el_tx.specs.Hashing.{txid}
 use Rattle.el_tables.specs.ChainLists.{output, outputs_from, listed_out, listed_position, txs_from, lists}
@@ -21,7 +21,7 @@ use Rattle.el_tables.proofs.Scripts.{number_at}
 use Rattle.el_tables.proofs.Unspents.{unspent_answers}
 use Rattle.el_model.specs.Queries as asked
 use Rattle.el_schema.proofs.Held.{no_tx}
-use Rattle.el_queries.specs.within.Histories.{own_coin, own_coins, outs_of, coins_made_by, coin_shown}
+use Rattle.el_queries.specs.within.Histories.{own_coin, own_coins, outs_of_tx, coins_made_by, coin_shown}
 use Rattle.el_queries.proofs.ChainEntries.{TxsWithin, txs_within}
 use Rattle.el_queries.proofs.Scripts.{none_listed}
 use Rattle.el_queries.proofs.TxRows.{tx_there, field_at}
@@ -123,7 +123,7 @@ owned_from scripts front before a b n (p ∷ ps) m at long le lt =
 -- 4. All
 
 -- the coins of one entry
-one_entry : (chain : Chain) (s : Hash32) (e : ListedEntry) → has_script s (lists chain).scripts ≡ true → e.tx < length (lists chain).txs
+one_entry : (chain : Chain) (s : Hash32) (e : ListedEntry) → is_script_among s (lists chain).scripts ≡ true → e.tx < length (lists chain).txs
     → coins_made_by (script_number s (lists chain).scripts) s (lists chain).outs (slice_get (lists chain).txs e.tx) ≡ coins_at (script_number s (lists chain).scripts) (lists chain) e
 one_entry chain s e there lt =
     let l = lists chain in
@@ -137,12 +137,12 @@ one_entry chain s e there lt =
     let outs = field_at (λ (u : ListedTx). u.outs) l.txs n 0 lt in
     let height = field_at (λ (u : ListedTx). u.height) l.txs n 0 lt in
     let id = field_at (λ (u : ListedTx). u.txid) l.txs n zero_hash lt in
-    let cut : take (outs_at n l.txs) (drop (first_out_at n l.txs) l.outs) ≡ outs_of t l.outs = ap₂ (λ (a b : ℕ). take a (drop b l.outs)) outs first in
+    let cut : take (outs_at n l.txs) (drop (first_out_at n l.txs) l.outs) ≡ outs_of_tx t l.outs = ap₂ (λ (a b : ℕ). take a (drop b l.outs)) outs first in
     ap (coins_made_by k s l.outs) (tx_there l.txs n lt)
-    ∙ coins_same k s l t n 0 (outs_of t l.outs) height (number_at s zero_hash l.scripts there) (subst (AllByRecursion (λ (x : ListedOut). x.tx ≡ n)) cut owned)
+    ∙ coins_same k s l t n 0 (outs_of_tx t l.outs) height (number_at s zero_hash l.scripts there) (subst (AllByRecursion (λ (x : ListedOut). x.tx ≡ n)) cut owned)
     ∙ ap₂ (λ (h : Hash32) (xs : List ListedOut). coins_among k h 0 l xs) (sym id) (sym cut)
 
-each_entry : (chain : Chain) (s : Hash32) (test : ListedEntry → Rattle.std.proofs.Common.Bool) (es : List ListedEntry) → has_script s (lists chain).scripts ≡ true → TxsWithin (length (lists chain).txs) es
+each_entry : (chain : Chain) (s : Hash32) (test : ListedEntry → Rattle.std.proofs.Common.Bool) (es : List ListedEntry) → is_script_among s (lists chain).scripts ≡ true → TxsWithin (length (lists chain).txs) es
     → flat_map (λ (e : ListedEntry). coins_made_by (script_number s (lists chain).scripts) s (lists chain).outs (slice_get (lists chain).txs e.tx)) (filter test es)
     ≡ flat_map (coins_at (script_number s (lists chain).scripts) (lists chain)) (filter test es)
 each_entry chain s test [] there all = refl
@@ -154,7 +154,7 @@ each_entry chain s test (e ∷ es) there all =
     ]
 
 -- the coins of a script hash along its entries are those after the chain
-unspent_shown : (chain : Chain) (s : Hash32) → has_script s (lists chain).scripts ≡ true
+unspent_shown : (chain : Chain) (s : Hash32) → is_script_among s (lists chain).scripts ≡ true
     → flat_map (λ (e : ListedEntry). coins_made_by (script_number s (lists chain).scripts) s (lists chain).outs (slice_get (lists chain).txs e.tx))
     (filter (is_of_script (script_number s (lists chain).scripts)) (lists chain).entries) ≡ asked.unspent chain s.0
 unspent_shown chain s there =
@@ -174,7 +174,7 @@ unspent_none chain s none =
 pub unspent_found : (chain : Chain) (s : Hash32)
     → flat_map (λ (e : ListedEntry). coins_made_by (script_number s (lists chain).scripts) s (lists chain).outs (slice_get (lists chain).txs e.tx))
     (filter (is_of_script (script_number s (lists chain).scripts)) (lists chain).entries) ≡ asked.unspent chain s.0
-unspent_found chain s = elim (cases_Bool (has_script s (lists chain).scripts)) [
+unspent_found chain s = elim (cases_Bool (is_script_among s (lists chain).scripts)) [
   | inl there ↦ unspent_shown chain s there
   | inr none ↦ unspent_none chain s (none_listed s (lists chain) (chain_fits chain) none)
 ]

@@ -4,7 +4,7 @@ use Rattle.std.proofs.lemmas.Bool.{or_parts, and_left}
 use Rattle.std.specs.List.{list_any}
 use Rattle.el_base.specs.declared.hash.Hash32.{Hash32}
 use Rattle.el_chain.specs.Chains.{Chain}
-use Rattle.el_chain.specs.RowCounts.{has_script}
+use Rattle.el_chain.specs.RowCounts.{is_script_among}
 use Rattle.el_tables.specs.ChainLists.{lists}
 use Rattle.el_tables.specs.Edits as edit
 use Rattle.el_tables.specs.Fits.{Fits, OutsWithin}
@@ -27,18 +27,18 @@ abbrev numbered : Hash32 → HeadCounts → Lists → ℕ → FoundScript
 numbered s counts l n = record { number = n; row = script_fields (script_row counts.scripts l n s) }
 
 pub script_there : (s : Hash32) (counts : HeadCounts) (l : Lists) (f : FoundScript) → Fits l → Some f ≡ script_in s counts l
-    → (f.number ≡ script_number s l.scripts) × (f.row ≡ script_fields (script_row counts.scripts l (script_number s l.scripts) s)) × (has_script s l.scripts ≡ true)
+    → (f.number ≡ script_number s l.scripts) × (f.row ≡ script_fields (script_row counts.scripts l (script_number s l.scripts) s)) × (is_script_among s l.scripts ≡ true)
 script_there s counts l f fits is = by (newest_of s l.scripts) refl is
   where
     by : (o : Option ℕ) → newest_of s l.scripts ≡ o → Some f ≡ option_map (numbered s counts l) o
-        → (f.number ≡ script_number s l.scripts) × (f.row ≡ script_fields (script_row counts.scripts l (script_number s l.scripts) s)) × (has_script s l.scripts ≡ true)
+        → (f.number ≡ script_number s l.scripts) × (f.row ≡ script_fields (script_row counts.scripts l (script_number s l.scripts) s)) × (is_script_among s l.scripts ≡ true)
     by None at e = absurd cc
     by (Some n) at e =
         let found = newest_some s l.scripts n fits.numbered.once at in
         let f_is : f ≡ numbered s counts l n = cc in
         (ap (λ (x : FoundScript). x.number) f_is ∙ found.1, ap (λ (x : FoundScript). x.row) f_is ∙ ap (λ (k : ℕ). script_fields (script_row counts.scripts l k s)) found.1, found.0)
 
-pub script_absent : (s : Hash32) (counts : HeadCounts) (l : Lists) → Fits l → None ≡ script_in s counts l → has_script s l.scripts ≡ false
+pub script_absent : (s : Hash32) (counts : HeadCounts) (l : Lists) → Fits l → None ≡ script_in s counts l → is_script_among s l.scripts ≡ false
 script_absent s counts l fits is = newest_none s l.scripts fits.numbered.once (by (newest_of s l.scripts) is)
   where
     by : (o : Option ℕ) → None ≡ option_map (numbered s counts l) o → o ≡ None
@@ -55,7 +55,7 @@ none_filtered test (x ∷ xs) none =
     rw isnt (none_filtered test xs parts.1)
 
 -- it has no entry
-pub none_listed : (s : Hash32) (l : Lists) → Fits l → has_script s l.scripts ≡ false → filter (is_of_script (script_number s l.scripts)) l.entries ≡ []
+pub none_listed : (s : Hash32) (l : Lists) → Fits l → is_script_among s l.scripts ≡ false → filter (is_of_script (script_number s l.scripts)) l.entries ≡ []
 none_listed s l fits none =
     ap (λ (k : ℕ). filter (is_of_script k) l.entries) (number_next s l.scripts none)
     ∙ none_filtered (is_of_script (length l.scripts)) l.entries (new_has_no_entry l.scripts l.entries fits.numbered)
@@ -70,7 +70,7 @@ none_held n (x ∷ xs) all =
     let nothing : (x.script == n) && is_unspent x.state ≡ false = and_left (x.script == n) (is_unspent x.state) apart in
     rw (nothing, rest) refl
 
-pub none_balance : (s : Hash32) (l : Lists) → Fits l → has_script s l.scripts ≡ false → balance_of (script_number s l.scripts) l.outs ≡ 0
+pub none_balance : (s : Hash32) (l : Lists) → Fits l → is_script_among s l.scripts ≡ false → balance_of (script_number s l.scripts) l.outs ≡ 0
 none_balance s l fits none = ap (λ (k : ℕ). balance_of k l.outs) (number_next s l.scripts none) ∙ none_held (length l.scripts) l.outs fits.within
 
 -- 3. Heads

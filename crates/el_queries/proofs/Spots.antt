@@ -31,7 +31,7 @@ use Rattle.el_schema.proofs.Held.{no_tx, count_tx_heads}
 use Rattle.el_schema.specs.Standing.{HoldChain, buckets_in}
 use Rattle.el_schema.proofs.StandingLemmas.{heads_there}
 use Rattle.el_schema.proofs.Rows.{listed_row, row_within}
-use Rattle.el_position.specs.Numbered.{number_of}
+use Rattle.el_position.specs.Numbered.{found_number}
 use Rattle.el_position.specs.declared.lookup.NumberedTx.{NumberedTx}
 use Rattle.el_queries.specs.within.Lookups.{spot_in, IsInItsBlock}
 use Rattle.el_queries.proofs.Heights.{id_of, id_in, ids_listed}
@@ -251,8 +251,8 @@ spot_by_row x bs h pos block e high within fits is = by (slice_get bs h) refl e
         ap₂ (λ (p : ℕ) (l : Place). Some (spot_from x.row.height p l x.row.start x.row.len)) pos_is (ap (λ (r : BlockRow). r.place) row_is)
 
 pub newest_in : (heads : ℕ) (chain : Chain) (shown : held.Tables) (id : Hash32) (f : Option NumberedTx) → 0 < heads → HoldChain heads shown chain
-    → ((counts : HeadCounts) (bs : List ListedBlock) (l : Lists) → Hold counts bs l shown → 0 < counts.txs → option_map number_of f ≡ newest_tx id l.txs)
-    → option_map number_of f ≡ newest_tx id (lists chain).txs
+    → ((counts : HeadCounts) (bs : List ListedBlock) (l : Lists) → Hold counts bs l shown → 0 < counts.txs → option_map found_number f ≡ newest_tx id l.txs)
+    → option_map found_number f ≡ newest_tx id (lists chain).txs
 newest_in heads chain shown id f some hold newest = newest (in_both heads) (listed_blocks chain) (lists chain) hold some
 
 pub rows_in : (heads : ℕ) (chain : Chain) (shown : held.Tables) (id : Hash32) (before after : ℕ) → 0 < heads → HoldChain heads shown chain

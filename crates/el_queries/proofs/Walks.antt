@@ -25,7 +25,7 @@ use Rattle.el_row_formats.specs.declared.out_row.OutRow.{OutRow}
 use Rattle.el_row_formats.specs.declared.out_row.State.TheVariants as out
 use Rattle.el_schema.specs.Rows.{block_fields, tx_fields, script_fields, entry_fields, out_fields, state_fields}
 use Rattle.el_schema.proofs.Rows.{get_past}
-use Rattle.el_spend.specs.Outputs.{output_at}
+use Rattle.el_spend.specs.Outputs.{output_numbered}
 use Rattle.el_spend.specs.declared.lookup.NamedOutput.{NamedOutput}
 use Rattle.el_queries.specs.within.LastBlock.{is_at, buried_own, buries_at, buries, AreLast}
 use Rattle.el_queries.proofs.Law.{any_joined}
@@ -229,7 +229,7 @@ entries_end f before own now all h =
 abbrev with_row : ℕ → ListedOut → NamedOutput
 with_row k x = record { number = k; row = out_fields x }
 
-pub none_here : (s : Hash32) (tx : ℕ) (l : Lists) (r : Option ℕ) → None ≡ option_and_then (output_at l.outs) r
+pub none_here : (s : Hash32) (tx : ℕ) (l : Lists) (r : Option ℕ) → None ≡ option_and_then (output_numbered l.outs) r
     → option_map_or (buried_own s tx l) (option_and_then (λ k. slice_get l.outs k) r) false ≡ false
 none_here s tx l None is = refl
 none_here s tx l (Some k) is = by (slice_get l.outs k) is
@@ -248,7 +248,7 @@ other_fields Unspent tx not = refl
 other_fields (Spent n) tx not = refl
 other_fields (Buried n) tx not = absurd (not n refl)
 
-some_here : (s : Hash32) (tx : ℕ) (l : Lists) (x : NamedOutput) (r : Option ℕ) → Some x ≡ option_and_then (output_at l.outs) r
+some_here : (s : Hash32) (tx : ℕ) (l : Lists) (x : NamedOutput) (r : Option ℕ) → Some x ≡ option_and_then (output_numbered l.outs) r
     → (y : ListedOut) × (x.row ≡ out_fields y) × (option_map_or (buried_own s tx l) (option_and_then (λ k. slice_get l.outs k) r) false ≡ buried_own s tx l y)
 some_here s tx l x None is = absurd cc
 some_here s tx l x (Some k) is = by (slice_get l.outs k) is
@@ -259,7 +259,7 @@ some_here s tx l x (Some k) is = by (slice_get l.outs k) is
     by (Some y) e = let same : x ≡ with_row k y = cc in (y, ap (λ (n : NamedOutput). n.row) same, refl)
 
 -- the transaction buried it
-pub buried_here : (s : Hash32) (tx by : ℕ) (l : Lists) (x : NamedOutput) (r : Option ℕ) → Some x ≡ option_and_then (output_at l.outs) r → x.row.state ≡ out.Buried by → by ≡ tx
+pub buried_here : (s : Hash32) (tx by : ℕ) (l : Lists) (x : NamedOutput) (r : Option ℕ) → Some x ≡ option_and_then (output_numbered l.outs) r → x.row.state ≡ out.Buried by → by ≡ tx
     → option_map_or (buried_own s tx l) (option_and_then (λ k. slice_get l.outs k) r) false ≡ is_at s l.scripts x.row.script
 buried_here s tx by l x r is state same =
     let at = some_here s tx l x r is in
@@ -269,7 +269,7 @@ buried_here s tx by l x r is state same =
     at.2 ∙ ap (λ (b : Bool). b && is_at s l.scripts at.0.script) buried ∙ ap (λ (q : OutRow). is_at s l.scripts q.script) (sym row)
 
 -- another did
-pub other_buried : (s : Hash32) (tx by : ℕ) (l : Lists) (x : NamedOutput) (r : Option ℕ) → Some x ≡ option_and_then (output_at l.outs) r → x.row.state ≡ out.Buried by → (by ≡ tx → ⊥)
+pub other_buried : (s : Hash32) (tx by : ℕ) (l : Lists) (x : NamedOutput) (r : Option ℕ) → Some x ≡ option_and_then (output_numbered l.outs) r → x.row.state ≡ out.Buried by → (by ≡ tx → ⊥)
     → option_map_or (buried_own s tx l) (option_and_then (λ k. slice_get l.outs k) r) false ≡ false
 other_buried s tx by l x r is state apart =
     let at = some_here s tx l x r is in
@@ -278,7 +278,7 @@ other_buried s tx by l x r is state apart =
     at.2 ∙ ap (λ (b : Bool). b && is_at s l.scripts at.0.script) buried
 
 -- none did
-pub not_buried : (s : Hash32) (tx : ℕ) (l : Lists) (x : NamedOutput) (r : Option ℕ) → Some x ≡ option_and_then (output_at l.outs) r → ((by : ℕ) → x.row.state ≡ out.Buried by → ⊥)
+pub not_buried : (s : Hash32) (tx : ℕ) (l : Lists) (x : NamedOutput) (r : Option ℕ) → Some x ≡ option_and_then (output_numbered l.outs) r → ((by : ℕ) → x.row.state ≡ out.Buried by → ⊥)
     → option_map_or (buried_own s tx l) (option_and_then (λ k. slice_get l.outs k) r) false ≡ false
 not_buried s tx l x r is other =
     let at = some_here s tx l x r is in

@@ -2,7 +2,7 @@
 ghost use Rattle.std.specs.Prelude.{◌≡◌, ◌<◌, ◌≤◌, ◌+◌, ◌-◌, List, length, map, take, drop, min, IfOk, IfSome, Some};
 ghost use Rattle.el_chain.specs.Chains.{Chain};
 ghost use Rattle.el_model.specs.Queries.{header_at, place_at, hashes_to, txids_at};
-ghost use Rattle.el_rows.specs.Transaction.{tables_in, reads_in, disk_failed, ReadsRows};
+ghost use Rattle.el_rows.specs.Transaction.{with_edits, reads_in, disk_failed, ReadsRows};
 ghost use Rattle.el_row_formats.specs.declared.table.Table.{Table};
 ghost use Rattle.el_schema.specs.Standing.{StandFor};
 ghost use Rattle.el_tables.specs.Tables as typed;
@@ -20,8 +20,8 @@ use std::alloc::Global;
 /// The 80 bytes of the header of that height (Bitcoin's serialization). It takes no memory.
 pub fn header<R: Rows>(t: &mut Txn<'_, R>, h: u32) -> Result<[u8; 80], DiskFailed>
     requires live { R.is_live t.old.rows.now }
-    requires within { h < length (tables_in t.old Table.Blocks) }
-    ensures header { (chain : Chain) → R.tells → StandFor (tables_in t.old) chain
+    requires within { h < length (with_edits t.old Table.Blocks) }
+    ensures header { (chain : Chain) → R.tells → StandFor (with_edits t.old) chain
         → IfOk result (λ bytes. header_at chain h ≡ Some bytes) }
     ensures rows { reads_in t.new ≤ reads_in t.old + 1 }
     ensures read { ReadsRows disk_failed t.old t.new result }
@@ -32,8 +32,8 @@ pub fn header<R: Rows>(t: &mut Txn<'_, R>, h: u32) -> Result<[u8; 80], DiskFaile
 /// Where the block of that height stands in the block files. It takes no memory.
 pub fn place<R: Rows>(t: &mut Txn<'_, R>, h: u32) -> Result<Place, DiskFailed>
     requires live { R.is_live t.old.rows.now }
-    requires within { h < length (tables_in t.old Table.Blocks) }
-    ensures place { (chain : Chain) → R.tells → StandFor (tables_in t.old) chain
+    requires within { h < length (with_edits t.old Table.Blocks) }
+    ensures place { (chain : Chain) → R.tells → StandFor (with_edits t.old) chain
         → IfOk result (λ place. place_at chain h ≡ Some place) }
     ensures rows { reads_in t.new ≤ reads_in t.old + 1 }
     ensures read { ReadsRows disk_failed t.old t.new result }
@@ -48,8 +48,8 @@ pub fn hashes<R: Rows>(
     upto: u32,
 ) -> Result<Vec<Hash32>, QueryFault>
     requires live { R.is_live t.old.rows.now }
-    requires within { upto < length (tables_in t.old Table.Blocks) }
-    ensures hashes { (chain : Chain) → R.tells → StandFor (tables_in t.old) chain
+    requires within { upto < length (with_edits t.old Table.Blocks) }
+    ensures hashes { (chain : Chain) → R.tells → StandFor (with_edits t.old) chain
         → IfOk result (λ found. found.items ≡ hashes_to chain upto) }
     ensures len { IfOk result (λ found. length found.items ≡ upto + 1) }
     ensures rows { reads_in t.new ≤ reads_in t.old + (upto + 1) }
@@ -72,10 +72,10 @@ pub fn block_txids<R: Rows>(
     h: u32,
 ) -> Result<Vec<Hash32>, QueryFault>
     requires live { R.is_live t.old.rows.now }
-    requires within { h < length (tables_in t.old Table.Blocks) }
-    ensures txids { (chain : Chain) → R.tells → StandFor (tables_in t.old) chain
+    requires within { h < length (with_edits t.old Table.Blocks) }
+    ensures txids { (chain : Chain) → R.tells → StandFor (with_edits t.old) chain
         → IfOk result (λ found. txids_at chain h ≡ Some found.items) }
-    ensures rows { (chain : Chain) → R.tells → StandFor (tables_in t.old) chain
+    ensures rows { (chain : Chain) → R.tells → StandFor (with_edits t.old) chain
         → IfSome (txids_at chain h) (λ ids. reads_in t.new ≤ reads_in t.old + (1 + length ids)) }
     ensures read { ReadsRows QueryFault.DiskFailed t.old t.new result }
 {
@@ -92,10 +92,10 @@ fn txids_between<R: Rows>(
     end: u128,
 ) -> Result<Vec<Hash32>, QueryFault>
     requires live { R.is_live t.old.rows.now }
-    ensures txids { (tb : typed.Tables) → R.tells → Encode (tables_in t.old) tb
+    ensures txids { (tb : typed.Tables) → R.tells → Encode (with_edits t.old) tb
         → IfOk result (λ found. found.items
         ≡ map (λ (r : typed.TxRow). r.listed.txid) (take (end - first) (drop first tb.txs))) }
-    ensures rows { reads_in t.new ≤ reads_in t.old + (min end (length (tables_in t.old Table.Txs)) - first) }
+    ensures rows { reads_in t.new ≤ reads_in t.old + (min end (length (with_edits t.old Table.Txs)) - first) }
     ensures read { ReadsRows QueryFault.DiskFailed t.old t.new result }
 {
     let count = u128::from(t.count(Table::Txs));

@@ -4,7 +4,7 @@ ghost use Rattle.std.specs.Prelude.{◌≡◌, ◌<◌, ◌≤◌, ◌-◌, ◌|
 ghost use Rattle.std.specs.List.{list_any};
 ghost use Rattle.el_base.specs.declared.hash.Hash32 as hash;
 ghost use Rattle.el_chain.specs.Headers.{same_hash};
-ghost use Rattle.el_rows.specs.Transaction.{tables_in, ReadsRows};
+ghost use Rattle.el_rows.specs.Transaction.{with_edits, ReadsRows};
 ghost use Rattle.el_row_formats.specs.declared.table.Table.{Table};
 ghost use Rattle.el_tables.specs.ChainLists.{ListedBlock};
 ghost use Rattle.el_tables.specs.Lists.{Lists};
@@ -31,7 +31,7 @@ fn touch_buried_at<R: Rows>(
 ) -> Result<(), QueryFault>
     requires live { R.is_live t.old.rows.now }
     ensures touched { (counts : HeadCounts) (bs : List ListedBlock) (l : Lists) (s : hash.Hash32) → R.tells
-        → Hold counts bs l (tables_in t.old) → 0 < counts.txs
+        → Hold counts bs l (with_edits t.old) → 0 < counts.txs
         → OnOk result (list_any (same_hash s) touched.new
         ≡ (list_any (same_hash s) touched.old || buries_at s tx l o.now)) }
     ensures read { ReadsRows QueryFault.DiskFailed t.old t.new result }
@@ -53,9 +53,9 @@ fn touch_buried<R: Rows>(
     touched: &mut Touched,
 ) -> Result<(), QueryFault>
     requires live { R.is_live t.old.rows.now }
-    requires below { tx < length (tables_in t.old Table.Txs) }
+    requires below { tx < length (with_edits t.old Table.Txs) }
     ensures touched { (counts : HeadCounts) (bs : List ListedBlock) (l : Lists) (s : hash.Hash32) → R.tells
-        → Hold counts bs l (tables_in t.old) → 0 < counts.txs
+        → Hold counts bs l (with_edits t.old) → 0 < counts.txs
         → OnOk result (list_any (same_hash s) touched.new
         ≡ (list_any (same_hash s) touched.old || buries s l tx)) }
     ensures read { ReadsRows QueryFault.DiskFailed t.old t.new result }
@@ -84,7 +84,7 @@ pub(crate) fn touch_all_buried<R: Rows>(
 ) -> Result<(), QueryFault>
     requires live { R.is_live t.old.rows.now }
     ensures touched { (counts : HeadCounts) (bs : List ListedBlock) (l : Lists) (s : hash.Hash32) → R.tells
-        → Hold counts bs l (tables_in t.old) → 0 < counts.txs
+        → Hold counts bs l (with_edits t.old) → 0 < counts.txs
         → OnOk result (list_any (same_hash s) touched.new
         ≡ (list_any (same_hash s) touched.old
         || list_any (buries s l) (numbers_from first (length l.txs - first)))) }

@@ -3,7 +3,7 @@ ghost use Rattle.std.specs.Prelude.{◌≡◌, ◌<◌, ◌≤◌, ◌+◌, ◌*
 ghost use Rattle.el_chain.specs.Chains.{Chain};
 ghost use Rattle.el_chain.specs.History.{history};
 ghost use Rattle.el_model.specs.Queries as asked;
-ghost use Rattle.el_rows.specs.Transaction.{tables_in, reads_in, ReadsRows};
+ghost use Rattle.el_rows.specs.Transaction.{with_edits, reads_in, ReadsRows};
 ghost use Rattle.el_tables.specs.ChainLists.{ListedBlock};
 ghost use Rattle.el_tables.specs.Fits.{Fits};
 ghost use Rattle.el_tables.specs.Lists.{ListedOut, ListedEntry, Lists, script_number, is_of_script};
@@ -65,11 +65,11 @@ fn push_coins<R: Rows>(
 ) -> Result<(), QueryFault>
     requires live { R.is_live t.old.rows.now }
     ensures pushed { (counts : HeadCounts) (bs : List ListedBlock) (l : Lists) → R.tells
-        → Hold counts bs l (tables_in t.old)
+        → Hold counts bs l (with_edits t.old)
         → OnOk result (found.new.items ≡ found.old.items ++ reverse
         (coins_made_by script.now.number script.now.row.script l.outs (slice_get l.txs tx))) }
     ensures rows { (counts : HeadCounts) (bs : List ListedBlock) (l : Lists) → R.tells
-        → Hold counts bs l (tables_in t.old)
+        → Hold counts bs l (with_edits t.old)
         → reads_in t.new ≤ reads_in t.old + (1 + outs_at tx l.txs) }
     ensures read { ReadsRows QueryFault.DiskFailed t.old t.new result }
 {
@@ -94,13 +94,13 @@ fn newest_first<R: Rows>(
 ) -> Result<Vec<Coin>, QueryFault>
     requires live { R.is_live t.old.rows.now }
     ensures found { (counts : HeadCounts) (bs : List ListedBlock) (l : Lists) → R.tells
-        → Hold counts bs l (tables_in t.old) → HasHeads counts l → Fits l
+        → Hold counts bs l (with_edits t.old) → HasHeads counts l → Fits l
         → IfOk result (λ found. reverse found.items ≡ flat_map
         (λ (e : ListedEntry). coins_made_by (script_number script_hash.now l.scripts) script_hash.now l.outs
         (slice_get l.txs e.tx))
         (filter (is_of_script (script_number script_hash.now l.scripts)) l.entries)) }
     ensures rows { (counts : HeadCounts) (bs : List ListedBlock) (l : Lists) → R.tells
-        → Hold counts bs l (tables_in t.old) → HasHeads counts l → Fits l
+        → Hold counts bs l (with_edits t.old) → HasHeads counts l → Fits l
         → reads_in t.new ≤ reads_in t.old
         + (1 + bucket_size counts.scripts script_hash.now l.scripts
         + sum_by (coin_rows l.txs)
@@ -132,13 +132,13 @@ pub fn unspent<R: Rows>(
     script_hash: &Hash32,
 ) -> Result<Vec<Coin>, QueryFault>
     requires live { R.is_live t.old.rows.now }
-    ensures unspent { (chain : Chain) → R.tells → StandFor (tables_in t.old) chain
+    ensures unspent { (chain : Chain) → R.tells → StandFor (with_edits t.old) chain
         → IfOk result (λ found. found.items ≡ asked.unspent chain script_hash.now.0) }
     // It reads one head, rows of scripts in the hash's bucket alone, for each entry two rows, and the outputs
     // of the entries' transactions.
-    ensures rows { (chain : Chain) → R.tells → StandFor (tables_in t.old) chain
+    ensures rows { (chain : Chain) → R.tells → StandFor (with_edits t.old) chain
         → reads_in t.new ≤ reads_in t.old
-        + (1 + asked.scripts_in_bucket chain (buckets_in (tables_in t.old)) script_hash.now.0
+        + (1 + asked.scripts_in_bucket chain (buckets_in (with_edits t.old)) script_hash.now.0
         + 2 * length (history chain script_hash.now.0)
         + asked.outputs_of_history chain script_hash.now.0) }
     ensures read { ReadsRows QueryFault.DiskFailed t.old t.new result }

@@ -3,12 +3,12 @@ ghost use Rattle.std.specs.Prelude.{◌≡◌, ◌≤◌, ◌||◌, ◌&&◌, �
 ghost use Rattle.std.specs.List.{list_any};
 ghost use Rattle.el_base.specs.declared.hash.Hash32 as hash;
 ghost use Rattle.el_chain.specs.Headers.{same_hash};
-ghost use Rattle.el_rows.specs.Transaction.{tables_in, ReadsRows};
+ghost use Rattle.el_rows.specs.Transaction.{with_edits, ReadsRows};
 ghost use Rattle.el_tables.specs.ChainLists.{ListedBlock};
 ghost use Rattle.el_tables.specs.Lists.{Lists, ListedEntry};
 ghost use Rattle.el_tables.specs.Tables.{HeadCounts};
 ghost use Rattle.el_schema.specs.Rows.{Hold};
-ghost use Rattle.el_queries.specs.within.LastBlock.{is_at, is_entry_of, is_below, AreLast};
+ghost use Rattle.el_queries.specs.within.LastBlock.{is_at, is_entry_of_script, is_below, AreLast};
 
 use crate::script::touch_script;
 use el_chain::Touched;
@@ -36,7 +36,7 @@ fn touch_entry<R: Rows>(
 ) -> Result<(), QueryFault>
     requires live { R.is_live t.old.rows.now }
     ensures touched { (counts : HeadCounts) (bs : List ListedBlock) (l : Lists) (s : hash.Hash32) → R.tells
-        → Hold counts bs l (tables_in t.old)
+        → Hold counts bs l (with_edits t.old)
         → OnOk result (list_any (same_hash s) touched.new ≡ (list_any (same_hash s) touched.old
         || (is_below since entry.now.before && is_at s l.scripts entry.now.script))) }
     ensures read { ReadsRows QueryFault.DiskFailed t.old t.new result }
@@ -58,10 +58,10 @@ pub(crate) fn touch_entries<R: Rows>(
 ) -> Result<(), QueryFault>
     requires live { R.is_live t.old.rows.now }
     ensures touched { (counts : HeadCounts) (bs : List ListedBlock) (l : Lists) (s : hash.Hash32)
-        (before own : List ListedEntry) → R.tells → Hold counts bs l (tables_in t.old)
+        (before own : List ListedEntry) → R.tells → Hold counts bs l (with_edits t.old)
         → l.entries ≡ before ++ own → AreLast first before own → length before ≤ since
         → OnOk result (list_any (same_hash s) touched.new
-        ≡ (list_any (same_hash s) touched.old || list_any (is_entry_of s l) own)) }
+        ≡ (list_any (same_hash s) touched.old || list_any (is_entry_of_script s l) own)) }
     ensures read { ReadsRows QueryFault.DiskFailed t.old t.new result }
 {
     let mut n = t.count(Table::Entries);

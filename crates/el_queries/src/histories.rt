@@ -3,7 +3,7 @@ ghost use Rattle.std.specs.Prelude.{◌≡◌, ◌<◌, ◌≤◌, ◌+◌, ◌*
 ghost use Rattle.el_chain.specs.Chains.{Chain};
 ghost use Rattle.el_chain.specs.History as spec;
 ghost use Rattle.el_model.specs.Queries as asked;
-ghost use Rattle.el_rows.specs.Transaction.{tables_in, reads_in, ReadsRows};
+ghost use Rattle.el_rows.specs.Transaction.{with_edits, reads_in, ReadsRows};
 ghost use Rattle.el_tables.specs.ChainLists.{ListedBlock};
 ghost use Rattle.el_tables.specs.Fits.{Fits};
 ghost use Rattle.el_tables.specs.Lists.{ListedEntry, Lists, script_number, is_of_script};
@@ -32,7 +32,7 @@ fn push_entry<R: Rows>(
 ) -> Result<(), QueryFault>
     requires live { R.is_live t.old.rows.now }
     ensures pushed { (counts : HeadCounts) (bs : List ListedBlock) (l : Lists) → R.tells
-        → Hold counts bs l (tables_in t.old)
+        → Hold counts bs l (with_edits t.old)
         → OnOk result (found.new.items ≡ found.old.items ++ shown_tx l.txs tx) }
     ensures read { ReadsRows QueryFault.DiskFailed t.old t.new result }
     ensures rows { reads_in t.new ≤ reads_in t.old + 1 }
@@ -57,11 +57,11 @@ fn newest_first<R: Rows>(
 ) -> Result<Vec<Entry>, QueryFault>
     requires live { R.is_live t.old.rows.now }
     ensures found { (counts : HeadCounts) (bs : List ListedBlock) (l : Lists) → R.tells
-        → Hold counts bs l (tables_in t.old) → HasHeads counts l → Fits l
+        → Hold counts bs l (with_edits t.old) → HasHeads counts l → Fits l
         → IfOk result (λ found. reverse found.items ≡ flat_map (λ (e : ListedEntry). shown_tx l.txs e.tx)
         (filter (is_of_script (script_number script_hash.now l.scripts)) l.entries)) }
     ensures rows { (counts : HeadCounts) (bs : List ListedBlock) (l : Lists) → R.tells
-        → Hold counts bs l (tables_in t.old) → HasHeads counts l → Fits l
+        → Hold counts bs l (with_edits t.old) → HasHeads counts l → Fits l
         → reads_in t.new ≤ reads_in t.old
         + (1 + bucket_size counts.scripts script_hash.now l.scripts
         + sum_by entry_rows (filter (is_of_script (script_number script_hash.now l.scripts)) l.entries)) }
@@ -93,12 +93,12 @@ pub fn history<R: Rows>(
     script_hash: &Hash32,
 ) -> Result<Vec<Entry>, QueryFault>
     requires live { R.is_live t.old.rows.now }
-    ensures history { (chain : Chain) → R.tells → StandFor (tables_in t.old) chain
+    ensures history { (chain : Chain) → R.tells → StandFor (with_edits t.old) chain
         → IfOk result (λ found. found.items ≡ spec.history chain script_hash.now.0) }
     // It reads one head, rows of scripts in the hash's bucket alone, and for each entry two rows.
-    ensures rows { (chain : Chain) → R.tells → StandFor (tables_in t.old) chain
+    ensures rows { (chain : Chain) → R.tells → StandFor (with_edits t.old) chain
         → reads_in t.new ≤ reads_in t.old
-        + (1 + asked.scripts_in_bucket chain (buckets_in (tables_in t.old)) script_hash.now.0
+        + (1 + asked.scripts_in_bucket chain (buckets_in (with_edits t.old)) script_hash.now.0
         + 2 * length (spec.history chain script_hash.now.0)) }
     ensures read { ReadsRows QueryFault.DiskFailed t.old t.new result }
 {

@@ -2,7 +2,7 @@
 ghost use Rattle.std.specs.Prelude.{◌≡◌, ◌<◌, ◌≤◌, ◌+◌, List, length, IfOk, Some};
 ghost use Rattle.el_chain.specs.Chains.{Chain};
 ghost use Rattle.el_model.specs.Queries as asked;
-ghost use Rattle.el_rows.specs.Transaction.{tables_in, disk_failed, ReadsRows};
+ghost use Rattle.el_rows.specs.Transaction.{with_edits, disk_failed, ReadsRows};
 ghost use Rattle.el_schema.specs.Standing.{StandFor};
 ghost use Rattle.el_tables.specs.ChainLists.{ListedBlock, lists};
 ghost use Rattle.el_tables.specs.Lists.{Lists};
@@ -10,7 +10,7 @@ ghost use Rattle.el_tables.specs.Lists.State.{Spent};
 ghost use Rattle.el_tables.specs.Queries.{spender_by};
 ghost use Rattle.el_tables.specs.Tables.{HeadCounts};
 ghost use Rattle.el_schema.specs.Rows.{Hold};
-ghost use Rattle.el_queries.specs.within.Lookups.{output_of, coin_in};
+ghost use Rattle.el_queries.specs.within.Lookups.{output_for_outpoint, coin_of_row};
 
 use el_chain::{Coin, Entry};
 use el_outside::DiskFailed;
@@ -23,7 +23,7 @@ use el_tx::Outpoint;
 /// The coin of an outpoint; None exactly where the chain's coins lack it. It takes no memory.
 pub fn coin<R: Rows>(t: &mut Txn<'_, R>, o: &Outpoint) -> Result<Option<Coin>, DiskFailed>
     requires live { R.is_live t.old.rows.now }
-    ensures coin { (chain : Chain) → R.tells → StandFor (tables_in t.old) chain
+    ensures coin { (chain : Chain) → R.tells → StandFor (with_edits t.old) chain
         → IfOk result (λ found. found ≡ asked.coin_of chain o.now) }
     ensures read { ReadsRows disk_failed t.old t.new result }
 {
@@ -40,7 +40,7 @@ pub fn coin<R: Rows>(t: &mut Txn<'_, R>, o: &Outpoint) -> Result<Option<Coin>, D
 /// none. It takes no memory.
 pub fn spender<R: Rows>(t: &mut Txn<'_, R>, o: &Outpoint) -> Result<Option<Entry>, DiskFailed>
     requires live { R.is_live t.old.rows.now }
-    ensures spender { (chain : Chain) → R.tells → StandFor (tables_in t.old) chain
+    ensures spender { (chain : Chain) → R.tells → StandFor (with_edits t.old) chain
         → IfOk result (λ found. found ≡ asked.spender chain o.now) }
     ensures read { ReadsRows disk_failed t.old t.new result }
 {
@@ -59,8 +59,8 @@ fn newest_output<R: Rows>(
     o: &Outpoint,
 ) -> Result<Option<NamedOutput>, DiskFailed>
     requires live { R.is_live t.old.rows.now }
-    ensures newest { (chain : Chain) → R.tells → StandFor (tables_in t.old) chain
-        → IfOk result (λ f. f ≡ output_of o.now (lists chain)) }
+    ensures newest { (chain : Chain) → R.tells → StandFor (with_edits t.old) chain
+        → IfOk result (λ f. f ≡ output_for_outpoint o.now (lists chain)) }
     ensures read { ReadsRows disk_failed t.old t.new result }
 {
     let count = t.count(Table::Txs);
@@ -76,8 +76,8 @@ fn coin_at<R: Rows>(
 ) -> Result<Option<Coin>, DiskFailed>
     requires live { R.is_live t.old.rows.now }
     ensures coin { (counts : HeadCounts) (bs : List ListedBlock) (l : Lists) → R.tells
-        → Hold counts bs l (tables_in t.old) → row.now.script < length l.scripts → row.now.tx < length l.txs
-        → IfOk result (λ c. c ≡ Some (coin_in o.now l row.now)) }
+        → Hold counts bs l (with_edits t.old) → row.now.script < length l.scripts → row.now.tx < length l.txs
+        → IfOk result (λ c. c ≡ Some (coin_of_row o.now l row.now)) }
     ensures read { ReadsRows disk_failed t.old t.new result }
 {
     if row.script >= t.count(Table::Scripts) || row.tx >= t.count(Table::Txs) {
@@ -97,7 +97,7 @@ fn coin_at<R: Rows>(
 fn entry_at<R: Rows>(t: &mut Txn<'_, R>, n: u64) -> Result<Option<Entry>, DiskFailed>
     requires live { R.is_live t.old.rows.now }
     ensures entry { (counts : HeadCounts) (bs : List ListedBlock) (l : Lists) → R.tells
-        → Hold counts bs l (tables_in t.old)
+        → Hold counts bs l (with_edits t.old)
         → IfOk result (λ e. e ≡ spender_by l.txs (Spent n)) }
     ensures read { ReadsRows disk_failed t.old t.new result }
 {

@@ -3,7 +3,7 @@ ghost use Rattle.std.specs.Prelude.{◌≡◌, ◌≤◌, ◌||◌, ℕ, List, O
 ghost use Rattle.std.specs.List.{list_any};
 ghost use Rattle.el_base.specs.declared.hash.Hash32 as hash;
 ghost use Rattle.el_chain.specs.Headers.{same_hash};
-ghost use Rattle.el_rows.specs.Transaction.{tables_in, ReadsRows};
+ghost use Rattle.el_rows.specs.Transaction.{with_edits, ReadsRows};
 ghost use Rattle.el_tables.specs.ChainLists.{ListedBlock};
 ghost use Rattle.el_tables.specs.Lists.{Lists};
 ghost use Rattle.el_tables.specs.Tables.{HeadCounts};
@@ -24,7 +24,7 @@ pub(crate) fn touch_script<R: Rows>(
 ) -> Result<(), QueryFault>
     requires live { R.is_live t.old.rows.now }
     ensures touched { (counts : HeadCounts) (bs : List ListedBlock) (l : Lists) (s : hash.Hash32) → R.tells
-        → Hold counts bs l (tables_in t.old)
+        → Hold counts bs l (with_edits t.old)
         → OnOk result (list_any (same_hash s) touched.new
         ≡ (list_any (same_hash s) touched.old || is_at s l.scripts n)) }
     ensures read { ReadsRows QueryFault.DiskFailed t.old t.new result }

@@ -9,7 +9,7 @@ ghost use Rattle.el_chain.specs.Touches.{touches_any};
 ghost use Rattle.el_chain.specs.declared.placed.Placed as shape;
 ghost use Rattle.el_row_formats.specs.Tables as held;
 ghost use Rattle.el_row_formats.specs.declared.table.Table.{Table};
-ghost use Rattle.el_rows.specs.Transaction.{tables_in, disk_failed, ReadsRows};
+ghost use Rattle.el_rows.specs.Transaction.{with_edits, disk_failed, ReadsRows};
 ghost use Rattle.el_tables.specs.ChainLists.{ListedBlock};
 ghost use Rattle.el_tables.specs.Disconnecting.{last};
 ghost use Rattle.el_tables.specs.Lists.{Lists, ListedEntry};
@@ -17,7 +17,7 @@ ghost use Rattle.el_tables.specs.Tables.{HeadCounts, numbers_from};
 ghost use Rattle.el_schema.specs.Rows.{Hold};
 ghost use Rattle.el_schema.specs.Standing.{StandFor};
 ghost use Rattle.el_queries.specs.TouchedBy.{touched_in};
-ghost use Rattle.el_queries.specs.within.LastBlock.{is_entry_of, buries, AreLast};
+ghost use Rattle.el_queries.specs.within.LastBlock.{is_entry_of_script, buries, AreLast};
 
 use crate::buried::touch_all_buried;
 use crate::entries::touch_entries;
@@ -32,7 +32,7 @@ use el_schema::block_row;
 fn first_tx<R: Rows>(t: &mut Txn<'_, R>) -> Result<Option<u64>, DiskFailed>
     requires live { R.is_live t.old.rows.now }
     ensures first { (counts : HeadCounts) (bs : List ListedBlock) (l : Lists) → R.tells
-        → Hold counts bs l (tables_in t.old)
+        → Hold counts bs l (with_edits t.old)
         → IfOk result (λ n. n ≡ option_map (λ (b : ListedBlock). b.first_tx) (last bs)) }
     ensures read { ReadsRows disk_failed t.old t.new result }
 {
@@ -54,10 +54,10 @@ fn touch_from<R: Rows>(
 ) -> Result<(), QueryFault>
     requires live { R.is_live t.old.rows.now }
     ensures touched { (counts : HeadCounts) (bs : List ListedBlock) (l : Lists) (s : hash.Hash32)
-        (before own : List ListedEntry) → R.tells → Hold counts bs l (tables_in t.old) → 0 < counts.txs
+        (before own : List ListedEntry) → R.tells → Hold counts bs l (with_edits t.old) → 0 < counts.txs
         → l.entries ≡ before ++ own → AreLast first before own → length before ≤ since
         → OnOk result (list_any (same_hash s) touched.new ≡ (list_any (same_hash s) touched.old
-        || (list_any (is_entry_of s l) own
+        || (list_any (is_entry_of_script s l) own
         || list_any (buries s l) (numbers_from first (length l.txs - first))))) }
     ensures read { ReadsRows QueryFault.DiskFailed t.old t.new result }
 {
@@ -71,7 +71,7 @@ fn touch_from<R: Rows>(
 pub fn touch_last<R: Rows>(t: &mut Txn<'_, R>, touched: &mut Touched) -> Result<(), QueryFault>
     requires live { R.is_live t.old.rows.now }
     ensures touched { (chain : Chain) (b : shape.Placed) (s : hash.Hash32) → R.tells
-        → StandFor (tables_in t.old) (chain ++ b ∷ [])
+        → StandFor (with_edits t.old) (chain ++ b ∷ [])
         → OnOk result (list_any (same_hash s) touched.new
         ≡ (list_any (same_hash s) touched.old || touched_in s chain b)) }
     // What follows holds over any rows.
@@ -97,7 +97,7 @@ pub fn touch_blocks<R: Rows>(
     requires live { R.is_live t.old.rows.now }
     // The numbers are the counts of the rows before these blocks.
     ensures touched { (base bs : Chain) (before : held.Tables) (s : hash.Hash32) → R.tells
-        → StandFor (tables_in t.old) (base ++ bs) → StandFor before base
+        → StandFor (with_edits t.old) (base ++ bs) → StandFor before base
         → first_tx ≡ length (before Table.Txs) → first_entry ≡ length (before Table.Entries)
         → OnOk result (list_any (same_hash s) touched.new
         ≡ (list_any (same_hash s) touched.old || touches_any s.0 (coins base) bs)) }

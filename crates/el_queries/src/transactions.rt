@@ -3,7 +3,7 @@ ghost use Rattle.std.specs.Prelude.{◌≡◌, ◌<◌, ◌≤◌, ◌+◌, IfOk
 ghost use Rattle.el_chain.specs.Chains.{Chain};
 ghost use Rattle.el_row_formats.specs.RowBytes.{number_limit};
 ghost use Rattle.el_model.specs.Queries as asked;
-ghost use Rattle.el_rows.specs.Transaction.{tables_in, reads_in, disk_failed, ReadsRows};
+ghost use Rattle.el_rows.specs.Transaction.{with_edits, reads_in, disk_failed, ReadsRows};
 ghost use Rattle.el_schema.specs.Standing.{StandFor, buckets_in};
 ghost use Rattle.el_tables.specs.Tables as typed;
 ghost use Rattle.el_schema.specs.Rows.{Encode};
@@ -25,11 +25,11 @@ const MAX_POS: u64 = 4_294_967_295;
 /// found, and the block's row.
 pub fn find_tx<R: Rows>(t: &mut Txn<'_, R>, txid: &Hash32) -> Result<Option<Spot>, DiskFailed>
     requires live { R.is_live t.old.rows.now }
-    ensures spot { (chain : Chain) → R.tells → StandFor (tables_in t.old) chain
+    ensures spot { (chain : Chain) → R.tells → StandFor (with_edits t.old) chain
         → IfOk result (λ found. found ≡ asked.find_tx chain txid.now) }
-    ensures rows { (chain : Chain) → R.tells → StandFor (tables_in t.old) chain
+    ensures rows { (chain : Chain) → R.tells → StandFor (with_edits t.old) chain
         → reads_in t.new ≤ reads_in t.old
-        + (2 + asked.txs_in_bucket chain (buckets_in (tables_in t.old)) txid.now.0) }
+        + (2 + asked.txs_in_bucket chain (buckets_in (with_edits t.old)) txid.now.0) }
     ensures read { ReadsRows disk_failed t.old t.new result }
 {
     match newest_row(t, txid)? {
@@ -42,7 +42,7 @@ pub fn find_tx<R: Rows>(t: &mut Txn<'_, R>, txid: &Hash32) -> Result<Option<Spot
 fn spot_of<R: Rows>(t: &mut Txn<'_, R>, found: &NumberedTx) -> Result<Option<Spot>, DiskFailed>
     requires live { R.is_live t.old.rows.now }
     requires few { found.now.number < number_limit }
-    ensures spot { (tb : typed.Tables) → R.tells → Encode (tables_in t.old) tb
+    ensures spot { (tb : typed.Tables) → R.tells → Encode (with_edits t.old) tb
         → IsInItsBlock found.now tb.blocks → IfOk result
         (λ s. s ≡ option_map (spot_in found.now) (slice_get tb.blocks found.now.row.height)) }
     ensures read { ReadsRows disk_failed t.old t.new result }

@@ -14,18 +14,18 @@ use Rattle.el_row_formats.proofs.Keys.{same_index}
 use Rattle.el_rows.specs.Changes.{Changes}
 use Rattle.el_redo.specs.RedoBody.{change_bytes, changes_bytes}
 use Rattle.el_redo.proofs.BodyLemmas.{length-change}
-use Rattle.el_redone.specs.Redone.{Write, Fits, into, ends, record_bytes}
+use Rattle.el_redone.specs.Redone.{Write, WritesFit, into, ends, record_bytes}
 use Rattle.el_redone.proofs.Writes.{into_here, into_other, into_append}
 use Rattle.el_pages.specs.declared.layout.Layout.{Layout}
 use Rattle.el_pages.specs.Layouts.{file_of, redo_of, size_in}
 use Rattle.el_pages.specs.Records.{write_of, writes_of, IsWhole}
-use Rattle.el_recovery.specs.Checks.{Found, IsOpen, length_told, body_told, IsBadNext, IsBadChange}
-use Rattle.el_recovery.specs.within.Checking.{HasBody, IsChecked, IsNextRow}
-use Rattle.el_recovery.specs.within.Redoing.{HasRecord}
+use Rattle.el_recovery.specs.Checks.{Found, IsGateOpen, length_told, body_told, IsBadNext, IsBadChange}
+use Rattle.el_recovery.specs.within.Checking.{HasBody, IsBodyChecked, IsNextRow}
+use Rattle.el_recovery.specs.within.Redoing.{HasRedoRecord}
 
 -- ---- lists of writes, and one more
 
-pub fits_append : (xs : List Write) (w : Write) (n : ℕ) → Fits xs n → w.at ≤ max n (ends xs) → Fits (xs ++ w ∷ []) n
+pub fits_append : (xs : List Write) (w : Write) (n : ℕ) → WritesFit xs n → w.at ≤ max n (ends xs) → WritesFit (xs ++ w ∷ []) n
 fits_append [] w n fits le = (omega (arith, le), tt)
 fits_append (x ∷ xs) w n fits le = (fits.0, fits_append xs w (max n (x.at + length x.bytes)) fits.1 (omega (arith, le)))
 
@@ -63,7 +63,7 @@ module _ (file body stale : List ℕ) (is : file ≡ 1 ∷ (record_bytes body ++
   pub file_long : length file ≡ 9 + (length body + length stale)
   file_long = ap (λ (b : List ℕ). length b) is ∙ length_file body stale
 
-  pub is_open_there : IsOpen file
+  pub is_open_there : IsGateOpen file
   is_open_there = (record_bytes body ++ stale, is, omega (arith, file_long))
 
   pub length_there : length body < 2 ^ 64 → length_told file ≡ length body
@@ -118,7 +118,7 @@ module _ (l : Layout) where
   -- nothing was gone over yet
   pub checked_none : (seen : Image) (len at end : ℕ) (body stale : List ℕ) (reach : Table → ℕ) → HasBody l seen len body stale
       → ((t : Table) → reach t ≡ length (seen (file_of l t))) → at ≡ 9 + l.meta → end ≡ 9 + len
-      → IsChecked l seen body stale at end [] (drop l.meta body) reach
+      → IsBodyChecked l seen body stale at end [] (drop l.meta body) reach
   checked_none seen len at end body stale reach has sizes at_is end_is =
       let long : length (take l.meta body) ≡ l.meta = length-take-le l.meta body (omega (arith, has.room, has.long)) in
       record {
@@ -134,7 +134,7 @@ module _ (l : Layout) where
       }
 
   module _ (seen : Image) (body stale : List ℕ) (at end : ℕ) (changes : Changes) (rest : List ℕ) (reach : Table → ℕ)
-      (c : IsChecked l seen body stale at end changes rest reach) where
+      (c : IsBodyChecked l seen body stale at end changes rest reach) where
     split_front : body ≡ (c.meta ++ changes_bytes changes) ++ rest
     split_front = c.split ∙ sym (append_assoc c.meta (changes_bytes changes) rest)
 
@@ -165,7 +165,7 @@ module _ (l : Layout) where
     -- one more is as it has to be
     pub checked_more : (now : Table → ℕ) (to : ℕ) (t : Table) (i : ℕ) (row after : List ℕ) → rest ≡ change_bytes (key t i, row) ++ after → length row ≡ size_in l t → i < 2 ^ 64
         → i * size_in l t ≤ reach t → now t ≡ max (reach t) (i * size_in l t + size_in l t) → ((u : Table) → u ≢ t → now u ≡ reach u) → to ≡ at + (9 + size_in l t)
-        → IsChecked l seen body stale to end (changes ++ (key t i, row) ∷ []) after now
+        → IsBodyChecked l seen body stale to end (changes ++ (key t i, row) ∷ []) after now
     checked_more now to t i row after is sized small begins here others to_is =
         let e : RowKey × List ℕ = (key t i, row) in
         record {
@@ -178,10 +178,10 @@ module _ (l : Layout) where
               ∙ ap (λ (b : List ℕ). c.meta ++ (b ++ after)) (sym (changes_more changes e));
           whole = whole_more changes e c.whole (record { sized = sized; small = small });
           fits = λ f. ⊎_elim
-              (λ (same : f ≡ file_of l t). subst (λ h. Fits (into h (map (write_of l) (changes ++ e ∷ []))) (length (seen h))) (sym same)
-              (subst (λ (w : List Write). Fits w (length (seen (file_of l t)))) (sym (into_more_here changes e))
+              (λ (same : f ≡ file_of l t). subst (λ h. WritesFit (into h (map (write_of l) (changes ++ e ∷ []))) (length (seen h))) (sym same)
+              (subst (λ (w : List Write). WritesFit w (length (seen (file_of l t)))) (sym (into_more_here changes e))
               (fits_append (into (file_of l t) (map (write_of l) changes)) (write_of l e) (length (seen (file_of l t))) (c.fits (file_of l t)) (omega (arith, begins, c.reaches t)))))
-              (λ ne. subst (λ (w : List Write). Fits w (length (seen f))) (sym (into_more_other changes e f ne)) (c.fits f))
+              (λ ne. subst (λ (w : List Write). WritesFit w (length (seen f))) (sym (into_more_other changes e f ne)) (c.fits f))
               (cases_eq f (file_of l t));
           reaches = λ u. ⊎_elim
               (λ (same : index_of u ≡ index_of t). subst (λ v. now v ≡ max (length (seen (file_of l v))) (ends (into (file_of l v) (map (write_of l) (changes ++ e ∷ []))))) (sym (same_index u t same))
@@ -196,7 +196,7 @@ module _ (l : Layout) where
     -- the next is there
     pub next_checked : (now : Table → ℕ) (to : ℕ) (t : Table) (i : ℕ) → IsNextRow l rest t i → 0 < size_in l t → i ≤ reach t / size_in l t
         → now t ≡ max (reach t) (i * size_in l t + size_in l t) → ((u : Table) → u ≢ t → now u ≡ reach u) → to ≡ at + (9 + size_in l t)
-        → (more : Changes) × (after : List ℕ) × IsChecked l seen body stale to end more after now
+        → (more : Changes) × (after : List ℕ) × IsBodyChecked l seen body stale to end more after now
     next_checked now to t i next some near here others to_is = (
       changes ++ (key t i, next.row) ∷ [],
       next.after,
@@ -222,7 +222,7 @@ module _ (l : Layout) where
     }
 
     -- all are
-    pub checked_all : (len : ℕ) → HasBody l seen len body stale → end ≤ at → HasRecord l seen len body stale (writes_of l c.meta changes)
+    pub checked_all : (len : ℕ) → HasBody l seen len body stale → end ≤ at → HasRedoRecord l seen len body stale (writes_of l c.meta changes)
     checked_all len has le =
         let none : rest ≡ [] = empty rest (omega (arith, rest_long, le)) in
         record {
@@ -236,12 +236,12 @@ module _ (l : Layout) where
             whole = c.whole;
             writes = refl;
           };
-          fits = λ f. subst (λ (w : List Write). Fits w (length (seen f))) (sym (into_append (map (write_of l) changes) (record { file = l.first; at = 0; bytes = c.meta } ∷ []) f))
+          fits = λ f. subst (λ (w : List Write). WritesFit w (length (seen f))) (sym (into_append (map (write_of l) changes) (record { file = l.first; at = 0; bytes = c.meta } ∷ []) f))
               (⊎_elim
-              (λ (same : l.first ≡ f). subst (λ (w : List Write). Fits (into f (map (write_of l) changes) ++ w) (length (seen f))) (sym (into_here (record { file = l.first; at = 0; bytes = c.meta }) [] f same))
+              (λ (same : l.first ≡ f). subst (λ (w : List Write). WritesFit (into f (map (write_of l) changes) ++ w) (length (seen f))) (sym (into_here (record { file = l.first; at = 0; bytes = c.meta }) [] f same))
               (fits_append (into f (map (write_of l) changes)) (record { file = l.first; at = 0; bytes = c.meta }) (length (seen f)) (c.fits f) (omega arith)))
-              (λ ne. subst (λ (w : List Write). Fits (into f (map (write_of l) changes) ++ w) (length (seen f))) (sym (into_other (record { file = l.first; at = 0; bytes = c.meta }) [] f ne))
-              (subst (λ (w : List Write). Fits w (length (seen f))) (sym (append-nil (into f (map (write_of l) changes)))) (c.fits f)))
+              (λ ne. subst (λ (w : List Write). WritesFit (into f (map (write_of l) changes) ++ w) (length (seen f))) (sym (into_other (record { file = l.first; at = 0; bytes = c.meta }) [] f ne))
+              (subst (λ (w : List Write). WritesFit w (length (seen f))) (sym (append-nil (into f (map (write_of l) changes)))) (c.fits f)))
               (cases_eq l.first f));
         }
       where

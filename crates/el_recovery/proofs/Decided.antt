@@ -10,12 +10,12 @@ use Rattle.el_row_formats.proofs.Keys.{same_index}
 use Rattle.el_rows.specs.Changes.{Changes}
 use Rattle.el_redo.specs.RedoBody.{change_bytes, changes_bytes}
 use Rattle.el_redo.proofs.BodyLemmas.{length-change}
-use Rattle.el_redone.specs.Redone.{Write, Fits, into, ends, IsClosed, Waits, StandsFor}
+use Rattle.el_redone.specs.Redone.{Write, WritesFit, into, ends, IsClosed, Waits, ImageStandsFor}
 use Rattle.el_redone.proofs.Writes.{into_here, into_append}
 use Rattle.el_pages.specs.declared.layout.Layout.{Layout}
 use Rattle.el_pages.specs.Layouts.{file_of, redo_of, size_in}
 use Rattle.el_pages.specs.Records.{write_of, IsWhole, Spells}
-use Rattle.el_recovery.specs.Checks.{Found, IsOpen, length_told, body_told, rows_then, IsShortFile, IsLongBody, IsShortBody, IsBadRecord, IsNoTable, IsPart, IsBeyond, IsBadNext, IsBadChange, IsBadBody}
+use Rattle.el_recovery.specs.Checks.{Found, IsGateOpen, length_told, body_told, rows_then, IsShortFile, IsLongBody, IsShortBody, IsBadRecord, IsNoTable, IsPart, IsBeyond, IsBadNext, IsBadChange, IsBadBody}
 use Rattle.el_recovery.proofs.Spelled.{one_change, no_change}
 use Rattle.el_recovery.proofs.Bodies.{file_long, length_there, body_there}
 
@@ -27,7 +27,7 @@ change_head e rest = refl
 same_table : (a b : Table) → number_of a ≡ number_of b → a ≡ b
 same_table a b same = same_index a b (omega (arith, same))
 
-fits_until : (xs : List Write) (w : Write) (ys : List Write) (n : ℕ) → Fits (xs ++ w ∷ ys) n → w.at ≤ max n (ends xs)
+fits_until : (xs : List Write) (w : Write) (ys : List Write) (n : ℕ) → WritesFit (xs ++ w ∷ ys) n → w.at ≤ max n (ends xs)
 fits_until [] w ys n fits = omega (arith, fits.0)
 fits_until (x ∷ xs) w ys n fits = omega (arith, fits_until xs w ys (max n (x.at + length x.bytes)) fits.1)
 
@@ -123,7 +123,7 @@ module _ (l : Layout) (sized : (t : Table) → 0 < size_in l t) where
 
   -- a change that fits after others isn't beyond
   near_there : (image : Image) (a : Changes) (e : RowKey × List ℕ) (es : Changes) (all : Changes) → all ≡ a ++ e ∷ es
-      → Fits (into (file_of l e.0.table) (map (write_of l) all)) (length (image (file_of l e.0.table))) → e.0.row ≤ rows_then l image a e.0.table
+      → WritesFit (into (file_of l e.0.table) (map (write_of l) all)) (length (image (file_of l e.0.table))) → e.0.row ≤ rows_then l image a e.0.table
   near_there image a e es all is fits =
       let f = file_of l e.0.table in
       let split : into f (map (write_of l) all) ≡ into f (map (write_of l) a) ++ write_of l e ∷ into f (map (write_of l) es) =
@@ -131,11 +131,11 @@ module _ (l : Layout) (sized : (t : Table) → 0 < size_in l t) where
       ∙ ap (λ (w : List Write). into f w) (map_split a (e ∷ es))
       ∙ into_append (map (write_of l) a) (map (write_of l) (e ∷ es)) f
       ∙ ap (λ (w : List Write). into f (map (write_of l) a) ++ w) (into_here (write_of l e) (map (write_of l) es) f refl) in
-      (le-div_iff_mul-le (sized e.0.table)).1 (fits_until (into f (map (write_of l) a)) (write_of l e) (into f (map (write_of l) es)) (length (image f)) (subst (λ (w : List Write). Fits w (length (image f))) split fits))
+      (le-div_iff_mul-le (sized e.0.table)).1 (fits_until (into f (map (write_of l) a)) (write_of l e) (into f (map (write_of l) es)) (length (image f)) (subst (λ (w : List Write). WritesFit w (length (image f))) split fits))
 
   -- where the changes of another reading go on, the next isn't bad
   goes_on_bad : (image : Image) (a all more : Changes) (rest after : List ℕ) (found : Found) → all ≡ a ++ more → rest ≡ changes_bytes more ++ after → AllByRecursion (IsWhole l) more
-      → ((t : Table) → Fits (into (file_of l t) (map (write_of l) all)) (length (image (file_of l t)))) → IsBadNext l (rows_then l image a) rest found → (more ≡ []) × (rest ≡ after)
+      → ((t : Table) → WritesFit (into (file_of l t) (map (write_of l) all)) (length (image (file_of l t)))) → IsBadNext l (rows_then l image a) rest found → (more ≡ []) × (rest ≡ after)
   goes_on_bad image a all [] rest after found is there whole fits bad = (refl, there)
   goes_on_bad image a all (e ∷ es) rest after found is there whole fits bad =
       absurd (next_bad_or_there (rows_then l image a) rest found e (changes_bytes es ++ after) bad (there ∙ append_assoc (change_bytes e) (changes_bytes es) after) whole.0
@@ -210,13 +210,13 @@ module _ (l : Layout) (sized : (t : Table) → 0 < size_in l t) where
 
   -- ---- a body that spells writes isn't bad
 
-  pub bad_opened : (image : Image) (found : Found) → IsBadBody l image found → IsOpen (image (redo_of l))
+  pub bad_opened : (image : Image) (found : Found) → IsBadBody l image found → IsGateOpen (image (redo_of l))
   bad_opened image found bad = ⊎_elim
       (λ rec. ⊎_elim (λ (x : IsShortFile l image found). x.opened) (λ more. ⊎_elim (λ (x : IsLongBody l image found). x.opened) (λ (x : IsShortBody l image found). x.opened) more) rec)
       (λ (change : IsBadChange l image found). change.reaches.opened)
       bad
 
-  module _ (image files : Image) (found : Found) (small : length (image (redo_of l)) < 2 ^ 62) (stands : StandsFor (Spells l) l.first (redo_of l) files image)
+  module _ (image files : Image) (found : Found) (small : length (image (redo_of l)) < 2 ^ 62) (stands : ImageStandsFor (Spells l) l.first (redo_of l) files image)
       (waits : Waits (Spells l) (image (redo_of l)) stands.writes) where
     long : length (image (redo_of l)) ≡ 9 + (length waits.body + length waits.stale)
     long = file_long (image (redo_of l)) waits.body waits.stale waits.is
@@ -238,16 +238,16 @@ module _ (l : Layout) (sized : (t : Table) → 0 < size_in l t) where
         (λ (x : IsShortBody l image found). omega (arith, x.short, told_is, body_long)) more)
         bad
 
-    fit : (t : Table) → Fits (into (file_of l t) (map (write_of l) waits.spelled.changes)) (length (image (file_of l t)))
+    fit : (t : Table) → WritesFit (into (file_of l t) (map (write_of l) waits.spelled.changes)) (length (image (file_of l t)))
     fit t =
-        let all = subst (λ (w : List Write). Fits (into (file_of l t) w) (length (image (file_of l t)))) waits.spelled.writes (stands.fits (file_of l t) (omega arith) (omega (arith, within t))) in
+        let all = subst (λ (w : List Write). WritesFit (into (file_of l t) w) (length (image (file_of l t)))) waits.spelled.writes (stands.fits (file_of l t) (omega arith) (omega (arith, within t))) in
         fits_first (into (file_of l t) (map (write_of l) waits.spelled.changes)) (into (file_of l t) (record { file = l.first; at = 0; bytes = waits.spelled.meta } ∷ [])) (length (image (file_of l t)))
-        (subst (λ (w : List Write). Fits w (length (image (file_of l t)))) (into_append (map (write_of l) waits.spelled.changes) (record { file = l.first; at = 0; bytes = waits.spelled.meta } ∷ []) (file_of l t)) all)
+        (subst (λ (w : List Write). WritesFit w (length (image (file_of l t)))) (into_append (map (write_of l) waits.spelled.changes) (record { file = l.first; at = 0; bytes = waits.spelled.meta } ∷ []) (file_of l t)) all)
       where
         within : (t : Table) → index_of t < 8
         within t = grind arith
 
-        fits_first : (xs ys : List Write) (m : ℕ) → Fits (xs ++ ys) m → Fits xs m
+        fits_first : (xs ys : List Write) (m : ℕ) → WritesFit (xs ++ ys) m → WritesFit xs m
         fits_first [] ys m fits = tt
         fits_first (x ∷ xs) ys m fits = (fits.0, fits_first xs ys (max m (x.at + length x.bytes)) fits.1)
 
@@ -268,7 +268,7 @@ module _ (l : Layout) (sized : (t : Table) → 0 < size_in l t) where
         tail_none [] ys is = sym is
         tail_none (x ∷ xs) ys is = absurd (omega (arith, ap (λ (b : List ℕ). length b) is))
 
-  pub stands_or_bad : (image files : Image) (found : Found) → length (image (redo_of l)) < 2 ^ 62 → StandsFor (Spells l) l.first (redo_of l) files image → IsBadBody l image found → ⊥
+  pub stands_or_bad : (image files : Image) (found : Found) → length (image (redo_of l)) < 2 ^ 62 → ImageStandsFor (Spells l) l.first (redo_of l) files image → IsBadBody l image found → ⊥
   stands_or_bad image files found small stands bad = ⊎_elim
       (λ none. ⊎_elim
       (λ (short : length (image (redo_of l)) < 2). omega (arith, short, (bad_opened image found bad).2))

@@ -11,7 +11,7 @@ use Rattle.el_pages.specs.declared.layout.TheConstants.{FORMAT_2, LETTERS}
 use Rattle.el_pages.specs.Layouts.{file_of, size_in, limit_in}
 use Rattle.el_pages.specs.Records.{meta_of}
 use Rattle.el_pages.specs.Indexes.{HasCounts}
-use Rattle.el_recovery.specs.Checks.{Found, word, bits_told, count_told, HasBits, HasHeads, IsHead, IsBadHead, IsBadHeads, IsBadCount, IsBadSize, IsBadRow, IsBadFiles, sizes_in}
+use Rattle.el_recovery.specs.Checks.{Found, word, bits_told, count_told, HasBits, HasHeadOfEachBucket, IsHead, IsBadHead, IsBadHeads, IsBadCount, IsBadSize, IsBadRow, IsBadFiles, sizes_in}
 use Rattle.el_recovery.proofs.Metas.{word_front, count_front}
 
 counts_front : (file : List ℕ) → count_told FORMAT_2 (take 80 file) ≡ count_told FORMAT_2 file
@@ -53,7 +53,7 @@ row_front magic file found bad = ⊎_elim
       head_front magic file more.0,
       ⊎_elim
           (λ x. inl (both_front (λ b c. IsBadHeads FORMAT_2 b c found) file x))
-          (λ x. inr (both_front (λ b c. HasHeads b c) file x.0, subst (λ (c : Table → ℕ). IsBadCount FORMAT_2 c found) (counts_front file) x.1))
+          (λ x. inr (both_front (λ b c. HasHeadOfEachBucket b c) file x.0, subst (λ (c : Table → ℕ). IsBadCount FORMAT_2 c found) (counts_front file) x.1))
           more.1,
     ))
     bad
@@ -69,14 +69,14 @@ module _ (magic : ℕ) (files : Image) (meta : List ℕ) (long : 80 ≤ length (
     counts_are : count_at counts ≡ count_told FORMAT_2 (files 20)
     counts_are = fun_ext (λ (t : Table). told t ∙ ap (λ (m : List ℕ). count_told FORMAT_2 m t) read ∙ count_front (files 20) t)
 
-    pub bad_size_there : (found : Found) → IsHead FORMAT_2 magic meta → HasHeads bits (count_at counts) → ((t : Table) → count_at counts t ≤ limit_in FORMAT_2 t)
+    pub bad_size_there : (found : Found) → IsHead FORMAT_2 magic meta → HasHeadOfEachBucket bits (count_at counts) → ((t : Table) → count_at counts t ≤ limit_in FORMAT_2 t)
         → ((t : Table) → count_at sizes t ≡ length (files (file_of FORMAT_2 t))) → IsBadSize FORMAT_2 (count_at counts) (count_at sizes) found
         → IsBadFiles FORMAT_2 magic (files 20) (sizes_in FORMAT_2 files) found
     bad_size_there found head heads limited size bad = inr (
       long,
       inr (record {
         head = head_front magic (files 20) (subst (λ (m : List ℕ). IsHead FORMAT_2 magic m) read head);
-        heads = subst (λ b. HasHeads b (count_told FORMAT_2 (files 20))) bits_same (subst (λ (c : Table → ℕ). HasHeads bits c) counts_are heads);
+        heads = subst (λ b. HasHeadOfEachBucket b (count_told FORMAT_2 (files 20))) bits_same (subst (λ (c : Table → ℕ). HasHeadOfEachBucket bits c) counts_are heads);
         limited = subst (λ (c : Table → ℕ). (t : Table) → c t ≤ limit_in FORMAT_2 t) counts_are limited;
         which = subst (λ (c : Table → ℕ). IsBadSize FORMAT_2 c (sizes_in FORMAT_2 files) found) counts_are
             (subst (λ (s : Table → ℕ). IsBadSize FORMAT_2 (count_at counts) s found) (fun_ext size) bad);

@@ -10,17 +10,17 @@ use Rattle.el_outside.proofs.Moments.{weaker}
 use Rattle.el_row_formats.proofs.Keys.{index_within}
 use Rattle.el_rows.specs.Changes.{Changes}
 use Rattle.el_redo.specs.RedoBody.{changes_bytes}
-use Rattle.el_redone.specs.Redone.{Write, overlaid, Fits, into, Covers, record_bytes}
+use Rattle.el_redone.specs.Redone.{Write, overlaid, WritesFit, into, Covers, record_bytes}
 use Rattle.el_redone.specs.Steps.{EachNow, Leaves, WillBe}
 use Rattle.el_redone.proofs.Runs.{goes_on}
 use Rattle.el_redone.proofs.Writes.{into_here, into_other, into_append, overlaid_append, covers_one}
 use Rattle.el_pages.specs.declared.layout.Layout.{Layout}
 use Rattle.el_pages.specs.Layouts.{redo_of}
 use Rattle.el_pages.specs.Records.{write_of, writes_of}
-use Rattle.el_recovery.specs.within.Redoing.{HasLeft, HasRecord}
+use Rattle.el_recovery.specs.within.Redoing.{HasLeft, HasRedoRecord}
 use Rattle.el_pages.proofs.Laid.{into_meta}
 
-fits_front : (xs ys : List Write) (m : ℕ) → Fits (xs ++ ys) m → Fits xs m
+fits_front : (xs ys : List Write) (m : ℕ) → WritesFit (xs ++ ys) m → WritesFit xs m
 fits_front [] ys m fits = tt
 fits_front (x ∷ xs) ys m fits = (fits.0, fits_front xs ys (max m (x.at + length x.bytes)) fits.1)
 
@@ -31,8 +31,8 @@ module _ (l : Layout) (meta : List ℕ) (changes : Changes) where
   split : (f : ℕ) → into f (writes_of l meta changes) ≡ into f (map (write_of l) changes) ++ into f (meta_in l meta ∷ [])
   split f = into_append (map (write_of l) changes) (meta_in l meta ∷ []) f
 
-  rows_fit_first : (f m : ℕ) → Fits (into f (writes_of l meta changes)) m → Fits (into f (map (write_of l) changes)) m
-  rows_fit_first f m fits = fits_front (into f (map (write_of l) changes)) (into f (meta_in l meta ∷ [])) m (subst (λ (w : List Write). Fits w m) (split f) fits)
+  rows_fit_first : (f m : ℕ) → WritesFit (into f (writes_of l meta changes)) m → WritesFit (into f (map (write_of l) changes)) m
+  rows_fit_first f m fits = fits_front (into f (map (write_of l) changes)) (into f (meta_in l meta ∷ [])) m (subst (λ (w : List Write). WritesFit w m) (split f) fits)
 
   meta_covers : Covers (into l.first (writes_of l meta changes)) 0 (length meta)
   meta_covers = covers_one (into l.first (writes_of l meta changes)) [] (meta_in l meta) [] (into_meta l meta changes)
@@ -85,7 +85,7 @@ nine : (body stale : List ℕ) → drop 9 (1 ∷ (record_bytes body ++ stale)) �
 unfolding record_bytes
 nine body stale = refl
 
-module _ (l : Layout) (seen : Image) (len : ℕ) (body stale : List ℕ) (ws : List Write) (rec : HasRecord l seen len body stale ws) where
+module _ (l : Layout) (seen : Image) (len : ℕ) (body stale : List ℕ) (ws : List Write) (rec : HasRedoRecord l seen len body stale ws) where
   after_nine : drop 9 (seen (redo_of l)) ≡ rec.spelled.meta ++ (changes_bytes rec.spelled.changes ++ stale)
   after_nine = ap (λ (b : List ℕ). drop 9 b) rec.is ∙ nine body stale ∙ ap (λ (b : List ℕ). b ++ stale) rec.spelled.is ∙ append_assoc rec.spelled.meta (changes_bytes rec.spelled.changes) stale
 
@@ -94,7 +94,7 @@ module _ (l : Layout) (seen : Image) (len : ℕ) (body stale : List ℕ) (ws : L
     is = sym (drop-drop l.meta 9 (seen (redo_of l))) ∙ ap (λ (b : List ℕ). drop l.meta b) after_nine ∙ drop_at rec.spelled.meta (changes_bytes rec.spelled.changes ++ stale) l.meta rec.spelled.long;
     ends_at = omega (arith, rec.long, ap (λ (b : List ℕ). length b) rec.spelled.is, length-append rec.spelled.meta (changes_bytes rec.spelled.changes), rec.spelled.long);
     whole = rec.spelled.whole;
-    fits = λ f. rows_fit_first l rec.spelled.meta rec.spelled.changes f (length (seen f)) (subst (λ (w : List Write). Fits (into f w) (length (seen f))) rec.spelled.writes (rec.fits f));
+    fits = λ f. rows_fit_first l rec.spelled.meta rec.spelled.changes f (length (seen f)) (subst (λ (w : List Write). WritesFit (into f w) (length (seen f))) rec.spelled.writes (rec.fits f));
   }
 
   record_meta : take l.meta (drop 9 (seen (redo_of l))) ≡ rec.spelled.meta
@@ -125,7 +125,7 @@ module _ (l : Layout) (seen : Image) (len : ℕ) (body stale : List ℕ) (ws : L
 
 -- the images meanwhile
 module _ {D : Type 0} (G : disk.Ghosts D) (earlier : (d : D) (t u : ℕ) (c : Image) → t ≤ u → G.left_since d u c → G.left_since d t c)
-    (l : Layout) (old : D) (len : ℕ) (body stale : List ℕ) (ws : List Write) (rec : HasRecord l (G.seen old) len body stale ws) (files : Image) (file : List ℕ) where
+    (l : Layout) (old : D) (len : ℕ) (body stale : List ℕ) (ws : List Write) (rec : HasRedoRecord l (G.seen old) len body stale ws) (files : Image) (file : List ℕ) where
   -- the rows are written
   pub body_run : (mid : D) → (HasLeft l (G.seen old) (9 + l.meta) (9 + len) rec.spelled.changes stale
       → EachNow G (WillBe l.first (redo_of l) files (writes_of l rec.spelled.meta rec.spelled.changes) file) old

@@ -9,7 +9,7 @@ use Rattle.el_redone.specs.Redone.{IsClosed, record_bytes}
 use Rattle.el_redo.specs.declared.faults.OpenFault.TheVariants as fault
 use Rattle.el_pages.specs.declared.layout.Layout.{Layout}
 use Rattle.el_pages.specs.Layouts.{redo_of}
-use Rattle.el_recovery.specs.Checks.{IsOpen, length_told, bad_index}
+use Rattle.el_recovery.specs.Checks.{IsGateOpen, length_told, bad_index}
 
 -- a fault by its numbers
 pub fault_is : {f g w v x y : ℕ} → f ≡ g → w ≡ v → x ≡ y → fault.BadIndex f w x ≡ bad_index (g, v, y)
@@ -31,10 +31,10 @@ module _ (file front : List ℕ) (size : ℕ) (long : length file ≡ size) (two
       shut [] le ne = absurd (omega (arith, le))
       shut (x ∷ rest) le ne = record { gate = x; rest = rest; is = refl; closed = ne }
 
-  pub is_open : get_or front 0 0 ≡ 1 → IsOpen file
+  pub is_open : get_or front 0 0 ≡ 1 → IsGateOpen file
   is_open is = opened file (omega (arith, long, two)) (gate_is ∙ is)
     where
-      opened : (l : List ℕ) → 2 ≤ length l → get_or l 0 0 ≡ 1 → IsOpen l
+      opened : (l : List ℕ) → 2 ≤ length l → get_or l 0 0 ≡ 1 → IsGateOpen l
       opened [] le is = absurd (omega (arith, le))
       opened (x ∷ rest) le is = (rest, ap (λ h. h ∷ rest) is, le)
 

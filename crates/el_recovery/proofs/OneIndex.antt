@@ -14,7 +14,7 @@ use Rattle.el_redo.specs.RedoBody.{head_bytes, numbers_bytes, all_tables}
 use Rattle.el_pages.specs.declared.layout.Layout.{Layout}
 use Rattle.el_pages.specs.Layouts.{file_of, redo_of, size_in, limit_in, rows_in}
 use Rattle.el_pages.specs.Records.{meta_of}
-use Rattle.el_pages.specs.Indexes.{HasCounts, Shows}
+use Rattle.el_pages.specs.Indexes.{HasCounts, ShowsTables}
 use Rattle.el_recovery.proofs.Spelled.{same_number}
 use Rattle.el_recovery.proofs.Alike.{one_stands}
 
@@ -78,7 +78,7 @@ module _ (l : Layout) (limited : (t : Table) → limit_in l t < 2 ^ 64) (head ot
   one_counts x y a b same m n t =
       one_meta head other long a b m.rest n.rest (λ u. omega (arith, m.limited u, limited u)) (λ u. omega (arith, n.limited u, limited u)) (sym m.meta ∙ same ∙ n.meta) t
 
-  pub one_index : (image : Image) (a b : Tables) → length (image (redo_of l)) < 2 ^ 62 → Shows l head image a → Shows l other image b → Same a b
+  pub one_index : (image : Image) (a b : Tables) → length (image (redo_of l)) < 2 ^ 62 → ShowsTables l head image a → ShowsTables l other image b → Same a b
   one_index image a b small x y t =
       let files = one_stands l image x.files y.files small x.stands y.stands in
       let counts = one_counts x.files y.files x.counts y.counts (files l.first (omega arith) (omega arith)) x.has y.has t in

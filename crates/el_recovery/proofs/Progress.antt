@@ -15,7 +15,7 @@ use Rattle.el_row_formats.proofs.Keys.{index_within}
 use Rattle.el_rows.specs.Changes.{Changes}
 use Rattle.el_redo.specs.RedoBody.{change_bytes, changes_bytes}
 use Rattle.el_redo.proofs.BodyLemmas.{length-change}
-use Rattle.el_redone.specs.Redone.{Write, overlaid, Fits, into}
+use Rattle.el_redone.specs.Redone.{Write, overlaid, WritesFit, into}
 use Rattle.el_redone.specs.Steps.{EachNow, Leaves, WillBe}
 use Rattle.el_redone.proofs.Runs.{no_calls, goes_on}
 use Rattle.el_redone.proofs.Writes.{into_here, into_other, fits_same}
@@ -97,8 +97,8 @@ module _ {D : Type 0} (G : disk.Ghosts D) (earlier : (d : D) (t u : ℕ) (c : Im
       elsewhere : (f : ℕ) → f ≢ file_of l next.e.0.table → into f (map (write_of l) was.rest) ≡ into f (map (write_of l) next.es)
       elsewhere f ne = ap (λ (c : Changes). into f (map (write_of l) c)) next.is ∙ into_other (write_of l next.e) (map (write_of l) next.es) f (λ is. ne (sym is))
 
-      fit_here : Fits (write_of l next.e ∷ into (file_of l next.e.0.table) (map (write_of l) next.es)) (length (G.seen now (file_of l next.e.0.table)))
-      fit_here = subst (λ (w : List Write). Fits w (length (G.seen now (file_of l next.e.0.table)))) here (was.left.fits (file_of l next.e.0.table))
+      fit_here : WritesFit (write_of l next.e ∷ into (file_of l next.e.0.table) (map (write_of l) next.es)) (length (G.seen now (file_of l next.e.0.table)))
+      fit_here = subst (λ (w : List Write). WritesFit w (length (G.seen now (file_of l next.e.0.table)))) here (was.left.fits (file_of l next.e.0.table))
 
       pub row_begins : next.e.0.row * size_in l next.e.0.table ≤ length (G.seen now (file_of l next.e.0.table))
       row_begins = fit_here.0
@@ -145,10 +145,10 @@ module _ {D : Type 0} (G : disk.Ghosts D) (earlier : (d : D) (t u : ℕ) (c : Im
                 ends_at = omega (arith, was.left.ends_at, to_is, ap (λ (c : Changes). length (changes_bytes c)) next.is, length-append (change_bytes next.e) (changes_bytes next.es), long);
                 whole = (subst (λ (c : Changes). AllByRecursion (IsWhole l) c) next.is was.left.whole).1;
                 fits = λ f. ⊎_elim
-                    (λ (is : f ≡ file_of l next.e.0.table). subst (λ h. Fits (into h (map (write_of l) next.es)) (length (G.seen new h))) (sym is)
+                    (λ (is : f ≡ file_of l next.e.0.table). subst (λ h. WritesFit (into h (map (write_of l) next.es)) (length (G.seen new h))) (sym is)
                     (fits_same (into (file_of l next.e.0.table) (map (write_of l) next.es)) _ _
                     (sym (ap (λ (b : List ℕ). length b) written ∙ length-over (G.seen now (file_of l next.e.0.table)) (next.e.0.row * size_in l next.e.0.table) next.e.1 row_begins)) fit_here.1))
-                    (λ ne. subst (λ (b : List ℕ). Fits (into f (map (write_of l) next.es)) (length b)) (sym (others f ne)) (subst (λ (w : List Write). Fits w (length (G.seen now f))) (elsewhere f ne) (was.left.fits f)))
+                    (λ ne. subst (λ (b : List ℕ). WritesFit (into f (map (write_of l) next.es)) (length b)) (sym (others f ne)) (subst (λ (w : List Write). WritesFit w (length (G.seen now f))) (elsewhere f ne) (was.left.fits f)))
                     (cases_eq f (file_of l next.e.0.table));
               };
               gives = λ f. ⊎_elim

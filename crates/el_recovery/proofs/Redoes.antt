@@ -4,7 +4,7 @@ use Rattle.el_outside.specs.declared.disk.Disk as disk
 use Rattle.el_outside.specs.Disk.{Image, over, OnDisk}
 use Rattle.el_outside.specs.Moments.{LeftNow}
 use Rattle.el_outside.proofs.Moments.{weaker, joined}
-use Rattle.el_redone.specs.Redone.{Write, overlaid, Fits, into, StandsFor, StandsAlike, record_bytes}
+use Rattle.el_redone.specs.Redone.{Write, overlaid, WritesFit, into, ImageStandsFor, StandsAlike, record_bytes}
 use Rattle.el_redone.specs.Steps.{EachNow, Leaves, HasRoot, WillBe, IsGated, IsAlikeTo, AreOnDisk, IsRootOnDisk, IsAtRest}
 use Rattle.el_redone.specs.declared.steps.TheConstants.{ROOT}
 use Rattle.el_redone.proofs.Runs.{now_has}
@@ -14,7 +14,7 @@ use Rattle.el_pages.specs.Records.{Spells}
 use Rattle.el_pages.proofs.Laid.{root_spared}
 use Rattle.el_pages.proofs.Stands.{stands_open, will_stand, settled_stands}
 use Rattle.el_pages.proofs.Commits.{written_gated, closed_at_rest}
-use Rattle.el_recovery.specs.within.Redoing.{HasRecord}
+use Rattle.el_recovery.specs.within.Redoing.{HasRedoRecord}
 use Rattle.el_recovery.proofs.Alike.{both_stand}
 
 -- the gate's call speaks of the span's files
@@ -30,7 +30,7 @@ abbrev pub redone : List Write → Image → Image
 redone ws seen = λ f. overlaid (into f ws) (seen f)
 
 module _ {D : Type 0} (G : disk.Ghosts D) (earlier : (d : D) (t u : ℕ) (c : Image) → t ≤ u → G.left_since d u c → G.left_since d t c)
-    (l : Layout) (old : D) (len : ℕ) (body stale : List ℕ) (ws : List Write) (rec : HasRecord l (G.seen old) len body stale ws)
+    (l : Layout) (old : D) (len : ℕ) (body stale : List ℕ) (ws : List Write) (rec : HasRedoRecord l (G.seen old) len body stale ws)
     (on_disk : AreOnDisk G l.first (redo_of l) old) (redo_disk : OnDisk (redo_of l) (G.seen old) (LeftNow G.moment G.left_since old))
     (root_disk : IsRootOnDisk G (redo_of l) old) (small : length (G.seen old (redo_of l)) < 2 ^ 62) where
   spared : (c : Image) → HasRoot (redo_of l) (redone ws (G.seen old)) c → HasRoot (redo_of l) (G.seen old) c
@@ -41,11 +41,11 @@ module _ {D : Type 0} (G : disk.Ghosts D) (earlier : (d : D) (t u : ℕ) (c : Im
     file_is = redo_disk c left ∙ rec.is;
     root = λ after. root_disk after c left ∙ sym (ap (λ (w : List Write). overlaid w (G.seen old ROOT)) (root_spared l body ws rec.spelled after));
     same = λ f low lt. ap (λ (b : List ℕ). overlaid (into f ws) b) (on_disk f low lt c left);
-    fits = λ f low lt. subst (λ (b : List ℕ). Fits (into f ws) (length b)) (sym (on_disk f low lt c left)) (rec.fits f);
+    fits = λ f low lt. subst (λ (b : List ℕ). WritesFit (into f ws) (length b)) (sym (on_disk f low lt c left)) (rec.fits f);
   }
 
   -- an image with this record behind any gate, that stands for the redone files
-  alike_gate : (c : Image) (gate : ℕ) → c (redo_of l) ≡ gate ∷ (record_bytes body ++ stale) → StandsFor (Spells l) l.first (redo_of l) (redone ws (G.seen old)) c
+  alike_gate : (c : Image) (gate : ℕ) → c (redo_of l) ≡ gate ∷ (record_bytes body ++ stale) → ImageStandsFor (Spells l) l.first (redo_of l) (redone ws (G.seen old)) c
       → StandsAlike (Spells l) l.first (redo_of l) (G.seen old) c
   alike_gate c gate is stands =
       let now = ap (λ (b : List ℕ). length b) is in

@@ -8,12 +8,12 @@ use Rattle.el_row_formats.specs.Tables.{Tables}
 use Rattle.el_rows.specs.Changes.{count_at}
 use Rattle.el_redo.specs.declared.faults.OpenFault.{OpenFault}
 use Rattle.el_redo.specs.declared.faults.OpenFault.TheVariants as fault
-use Rattle.el_redone.specs.Redone.{StandsFor}
+use Rattle.el_redone.specs.Redone.{ImageStandsFor}
 use Rattle.el_pages.specs.declared.layout.TheConstants.{FORMAT_2}
 use Rattle.el_pages.specs.Layouts.{file_of, size_in}
 use Rattle.el_pages.specs.Records.{Spells}
 use Rattle.el_pages.proofs.Laid.{some_size, length-rows_in}
-use Rattle.el_recovery.specs.Checks.{Found, bad_index, HasHeads, IsIndex, IsBadBody, IsBadFiles, IsBadIndex, sizes_in}
+use Rattle.el_recovery.specs.Checks.{Found, bad_index, HasHeadOfEachBucket, IsIndex, IsBadBody, IsBadFiles, IsBadIndex, sizes_in}
 use Rattle.el_recovery.proofs.Settles.{Begun, stands_before, bad_same}
 use Rattle.el_recovery.proofs.Verdicts.{one_bad_index, settled_or_bad}
 
@@ -36,8 +36,8 @@ module _ (magic : List ℕ) (old : Image) (small : length (old 29) < 2 ^ 62) (e 
       (λ bad. absurd (settled_or_bad magic old index.shows.files index.shows.counts index.bits bad.0 four small some_size index.shows.stands index.shows.has index.may_be (heads_of index) bad.2))
       told
     where
-      heads_of : (index : IsIndex magic old tables) → HasHeads index.bits (count_at index.shows.counts)
-      heads_of index = let shows = index.shows in subst (λ (count : Table → ℕ). HasHeads index.bits count)
+      heads_of : (index : IsIndex magic old tables) → HasHeadOfEachBucket index.bits (count_at index.shows.counts)
+      heads_of index = let shows = index.shows in subst (λ (count : Table → ℕ). HasHeadOfEachBucket index.bits count)
           (fun_ext (λ (t : Table). ap (λ (rows : List (List ℕ)). length rows) (shows.same t) ∙ length-rows_in (size_in FORMAT_2 t) (shows.files (file_of FORMAT_2 t)) (count_at shows.counts t)))
           index.heads
 
@@ -59,7 +59,7 @@ module _ (magic : List ℕ) (old begun new : Image) (b : Begun 29 old begun) (e 
       (λ bad. inr (bad.3 ∙ bad_same FORMAT_2 old begun b some_size bad.0 bad.2))
       told
 
-  pub files_refused : StandsFor (Spells FORMAT_2) 20 29 new begun → Told e (IsBadFiles FORMAT_2 (from_le_bytes w32 magic) (new 20) (sizes_in FORMAT_2 new))
+  pub files_refused : ImageStandsFor (Spells FORMAT_2) 20 29 new begun → Told e (IsBadFiles FORMAT_2 (from_le_bytes w32 magic) (new 20) (sizes_in FORMAT_2 new))
       → Told e (IsBadIndex FORMAT_2 (from_le_bytes w32 magic) old)
   files_refused stands told = ⊎_elim
       (λ failed. inl failed)

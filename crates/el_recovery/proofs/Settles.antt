@@ -7,15 +7,15 @@ use Rattle.el_outside.specs.Disk.{Image, OnDisk, NothingNew}
 use Rattle.el_outside.specs.Moments.{LeftNow, Passes}
 use Rattle.el_outside.proofs.Moments.{weaker, joined}
 use Rattle.el_row_formats.specs.declared.table.Table.{Table}
-use Rattle.el_redone.specs.Redone.{Write, overlaid, into, IsClosed, StandsFor}
+use Rattle.el_redone.specs.Redone.{Write, overlaid, into, IsClosed, ImageStandsFor}
 use Rattle.el_redone.specs.Steps.{EachNow, Leaves, AreOnDisk, IsRootOnDisk, IsAtRest, IsBegun, IsAlikeTo, IsAlike}
 use Rattle.el_redone.specs.declared.steps.TheConstants.{ROOT}
 use Rattle.el_redone.proofs.Runs.{stays, goes_on, now_has}
 use Rattle.el_pages.specs.declared.layout.Layout.{Layout}
 use Rattle.el_pages.specs.Layouts.{redo_of, size_in}
 use Rattle.el_pages.specs.Records.{Spells}
-use Rattle.el_recovery.specs.Checks.{Found, NoneWaits, length_told, IsOpen, IsBadBody}
-use Rattle.el_recovery.specs.within.Redoing.{HasRecord}
+use Rattle.el_recovery.specs.Checks.{Found, NoRecordWaits, length_told, IsGateOpen, IsBadBody}
+use Rattle.el_recovery.specs.within.Redoing.{HasRedoRecord}
 use Rattle.el_recovery.specs.within.Checking.{HasBody}
 use Rattle.el_recovery.proofs.Bodies.{file_long, length_there}
 use Rattle.el_recovery.proofs.Opens.{begun_stands, begun_alike}
@@ -73,7 +73,7 @@ module _ {D : Type 0} (G : disk.Ghosts D) where
   }
 
 -- the files are those that the disk stood for
-pub stands_none : (l : Layout) (old new : Image) → new ≡ old → (length (old (redo_of l)) < 2) ⊎ IsClosed (old (redo_of l)) → StandsFor (Spells l) l.first (redo_of l) new old
+pub stands_none : (l : Layout) (old new : Image) → new ≡ old → (length (old (redo_of l)) < 2) ⊎ IsClosed (old (redo_of l)) → ImageStandsFor (Spells l) l.first (redo_of l) new old
 stands_none l old new same none = record {
   writes = [];
   pending = inl (none, refl);
@@ -81,8 +81,8 @@ stands_none l old new same none = record {
   fits = λ f low lt. tt;
 }
 
-pub stands_redone : (l : Layout) (seen new : Image) (len : ℕ) (body stale : List ℕ) (ws : List Write) → HasRecord l seen len body stale ws
-    → ((f : ℕ) → f ≢ redo_of l → new f ≡ overlaid (into f ws) (seen f)) → StandsFor (Spells l) l.first (redo_of l) new seen
+pub stands_redone : (l : Layout) (seen new : Image) (len : ℕ) (body stale : List ℕ) (ws : List Write) → HasRedoRecord l seen len body stale ws
+    → ((f : ℕ) → f ≢ redo_of l → new f ≡ overlaid (into f ws) (seen f)) → ImageStandsFor (Spells l) l.first (redo_of l) new seen
 stands_redone l seen new len body stale ws rec written = record {
   writes = ws;
   pending = inr (record { body = body; stale = stale; is = rec.is; spelled = rec.spelled });
@@ -99,7 +99,7 @@ module _ (l : Layout) (seen : Image) (o : Option ℕ) (len : ℕ) (said : IfSome
   pub body_there : (body : List ℕ) × (stale : List ℕ) × HasBody l seen len body stale
   body_there = some_there (λ (n : ℕ). (body : List ℕ) × (stale : List ℕ) × HasBody l seen n body stale) o len said is
 
-  pub body_waits : NoneWaits (seen (redo_of l)) → ⊥
+  pub body_waits : NoRecordWaits (seen (redo_of l)) → ⊥
   body_waits none = ⊎_elim
       (λ (lt : length (seen (redo_of l)) < 2). omega (arith, lt, file_long (seen (redo_of l)) body_there.0 body_there.1 body_there.2.is))
       (λ (closed : IsClosed (seen (redo_of l))). closed.closed (ap (λ (b : List ℕ). get_or b 0 0) (sym closed.is ∙ body_there.2.is)))
@@ -129,17 +129,17 @@ module _ (l : Layout) (old begun : Image) (b : Begun (redo_of l) old begun) wher
       (λ ge. absurd (omega (arith, lt, ge, ap (λ (x : List ℕ). length x) (b.kept ge))))
       (cases_lt (length (old (redo_of l))) 2)
 
-  pub stands_before : (files : Image) → StandsFor (Spells l) l.first (redo_of l) files begun → StandsFor (Spells l) l.first (redo_of l) files old
+  pub stands_before : (files : Image) → ImageStandsFor (Spells l) l.first (redo_of l) files begun → ImageStandsFor (Spells l) l.first (redo_of l) files old
   stands_before files stands = begun_stands l files begun old (λ f low lt. sym (b.others f (λ e. absurd (omega (arith, lt, e))))) here stands
 
   -- what waited then waits
-  pub begun_none : NoneWaits (old (redo_of l)) → NoneWaits (begun (redo_of l))
+  pub begun_none : NoRecordWaits (old (redo_of l)) → NoRecordWaits (begun (redo_of l))
   begun_none none = ⊎_elim
       (λ (lt : length (old (redo_of l)) < 2). inl (omega (arith, ap (λ (x : List ℕ). length x) (b.short lt))))
-      (λ ge. subst (λ (x : List ℕ). NoneWaits x) (sym (b.kept ge)) none)
+      (λ ge. subst (λ (x : List ℕ). NoRecordWaits x) (sym (b.kept ge)) none)
       (cases_lt (length (old (redo_of l))) 2)
 
-  same_open : IsOpen (begun (redo_of l)) → begun ≡ old
+  same_open : IsGateOpen (begun (redo_of l)) → begun ≡ old
   same_open opened = fun_ext each
     where
       ge : 2 ≤ length (old (redo_of l))
@@ -159,7 +159,7 @@ module _ (l : Layout) (old begun : Image) (b : Begun (redo_of l) old begun) wher
   bad_same sized found bad = same_open (bad_opened l sized begun found bad)
 
   -- calls counted by the length that stood there
-  pub calls_before : (m n : ℕ) → (NoneWaits (begun (redo_of l)) → n ≤ m + 2) → 2 * n ≤ 2 * m + (225 + length_told (begun (redo_of l))) → 2 * n ≤ 2 * m + (225 + length_told (old (redo_of l)))
+  pub calls_before : (m n : ℕ) → (NoRecordWaits (begun (redo_of l)) → n ≤ m + 2) → 2 * n ≤ 2 * m + (225 + length_told (begun (redo_of l))) → 2 * n ≤ 2 * m + (225 + length_told (old (redo_of l)))
   calls_before m n quiet calls = ⊎_elim
       (λ (lt : length (old (redo_of l)) < 2). omega (arith, quiet (begun_none (inl lt))))
       (λ ge. omega (arith, calls, ap (λ (x : List ℕ). length_told x) (b.kept ge)))
@@ -198,12 +198,12 @@ module _ {D : Type 0} (G : disk.Ghosts D) (earlier : (d : D) (t u : ℕ) (c : Im
 -- the record that waits, once its body was gone over
 pub record_found : (l : Layout) (seen mid new : Image) (o : Option ℕ) (len : ℕ) → mid ≡ seen → new ≡ mid
     → IfSome o (λ (n : ℕ). (body : List ℕ) × (stale : List ℕ) × HasBody l seen n body stale) → o ≡ Some len
-    → ((body stale : List ℕ) → HasBody l mid len body stale → (ws : List Write) × HasRecord l mid len body stale ws)
-    → (body stale : List ℕ) × (ws : List Write) × HasRecord l new len body stale ws
+    → ((body stale : List ℕ) → HasBody l mid len body stale → (ws : List Write) × HasRedoRecord l mid len body stale ws)
+    → (body stale : List ℕ) × (ws : List Write) × HasRedoRecord l new len body stale ws
 record_found l seen mid new o len same again said is gives =
     let found = body_there l seen o len said is in
     let has = gives found.0 found.1 (subst (λ (s : Image). HasBody l s len found.0 found.1) (sym same) found.2) in
-    (found.0, found.1, has.0, subst (λ (s : Image). HasRecord l s len found.0 found.1 has.0) (sym again) has.1)
+    (found.0, found.1, has.0, subst (λ (s : Image). HasRedoRecord l s len found.0 found.1 has.0) (sym again) has.1)
 
 -- an opening: its start, a record redone, and the files read
 module _ {D : Type 0} (G : disk.Ghosts D) (earlier : (d : D) (t u : ℕ) (c : Image) → t ≤ u → G.left_since d u c → G.left_since d t c)

@@ -11,13 +11,13 @@ use Rattle.el_row_formats.specs.declared.limits.TheConstants.{MIN_HEAD_BITS}
 use Rattle.el_row_formats.proofs.Keys.{same_index, index_within, few_rows}
 use Rattle.el_rows.specs.Changes.{count_at}
 use Rattle.el_redo.specs.RedoBody.{head_bytes, numbers_bytes, all_tables}
-use Rattle.el_redone.specs.Redone.{StandsFor}
+use Rattle.el_redone.specs.Redone.{ImageStandsFor}
 use Rattle.el_pages.specs.declared.layout.Layout.{Layout}
 use Rattle.el_pages.specs.declared.layout.TheConstants.{FORMAT_2, LETTERS}
 use Rattle.el_pages.specs.Layouts.{file_of, redo_of, size_in, limit_in}
 use Rattle.el_pages.specs.Records.{Spells, meta_of}
 use Rattle.el_pages.specs.Indexes.{HasCounts}
-use Rattle.el_recovery.specs.Checks.{Found, word, bits_told, count_told, HasBits, HasHeads, IsHead, IsBadHead, IsBadHeads, IsBadCount, IsBadSize, IsBadRow, IsBadTable, IsBadFiles, sizes_in, HasBadFiles, IsBadIndex}
+use Rattle.el_recovery.specs.Checks.{Found, word, bits_told, count_told, HasBits, HasHeadOfEachBucket, IsHead, IsBadHead, IsBadHeads, IsBadCount, IsBadSize, IsBadRow, IsBadTable, IsBadFiles, sizes_in, HasBadFiles, IsBadIndex}
 use Rattle.el_pages.proofs.Laid.{limits_2}
 use Rattle.el_recovery.proofs.Alike.{one_stands}
 use Rattle.el_recovery.proofs.Decided.{one_bad_body, stands_or_bad}
@@ -83,7 +83,7 @@ module _ (l : Layout) (bits : ℕ) (count : Table → ℕ) where
       (one_is (file_of l table.TxHeads, 2 ^ bits, count table.TxHeads))
       (one_with (count table.ScriptHeads ≢ 2 ^ bits) (λ (found : Found). found ≡ (file_of l table.ScriptHeads, 2 ^ bits, count table.ScriptHeads)) (one_is (file_of l table.ScriptHeads, 2 ^ bits, count table.ScriptHeads)))
 
-  heads_good : (found : Found) → IsBadHeads l bits count found → HasHeads bits count → ⊥
+  heads_good : (found : Found) → IsBadHeads l bits count found → HasHeadOfEachBucket bits count → ⊥
   heads_good found bad heads = ⊎_elim (λ x. x.0 heads.0) (λ x. x.1.0 heads.1) bad
 
 module _ (l : Layout) (count size : Table → ℕ) where
@@ -113,17 +113,17 @@ module _ (l : Layout) (count size : Table → ℕ) where
 
 module _ (l : Layout) (magic : ℕ) (file : List ℕ) (size : Table → ℕ) where
   abbrev after_head : Found → Type 0
-  after_head found = IsBadHeads l (bits_told file) (count_told l file) found ⊎ (HasHeads (bits_told file) (count_told l file) × IsBadCount l (count_told l file) found)
+  after_head found = IsBadHeads l (bits_told file) (count_told l file) found ⊎ (HasHeadOfEachBucket (bits_told file) (count_told l file) × IsBadCount l (count_told l file) found)
 
   one_row : One (IsBadRow l magic file)
   one_row = one_of (IsBadHead l magic file) (λ (found : Found). IsHead l magic file × after_head found) (λ a b x y. head_good l magic file a x y.0)
       (one_head l magic file)
       (one_with (IsHead l magic file) after_head
-      (one_of (IsBadHeads l (bits_told file) (count_told l file)) (λ (found : Found). HasHeads (bits_told file) (count_told l file) × IsBadCount l (count_told l file) found) (λ a b x y. heads_good l (bits_told file) (count_told l file) a x y.0)
+      (one_of (IsBadHeads l (bits_told file) (count_told l file)) (λ (found : Found). HasHeadOfEachBucket (bits_told file) (count_told l file) × IsBadCount l (count_told l file) found) (λ a b x y. heads_good l (bits_told file) (count_told l file) a x y.0)
       (one_heads l (bits_told file) (count_told l file))
-      (one_with (HasHeads (bits_told file) (count_told l file)) (IsBadCount l (count_told l file)) (one_count l (count_told l file) size))))
+      (one_with (HasHeadOfEachBucket (bits_told file) (count_told l file)) (IsBadCount l (count_told l file)) (one_count l (count_told l file) size))))
 
-  row_good : (found : Found) → IsBadRow l magic file found → IsHead l magic file → HasHeads (bits_told file) (count_told l file) → ((t : Table) → count_told l file t ≤ limit_in l t) → ⊥
+  row_good : (found : Found) → IsBadRow l magic file found → IsHead l magic file → HasHeadOfEachBucket (bits_told file) (count_told l file) → ((t : Table) → count_told l file t ≤ limit_in l t) → ⊥
   row_good found bad head heads limited = ⊎_elim
       (λ x. head_good l magic file found x head)
       (λ more. ⊎_elim (λ x. heads_good l (bits_told file) (count_told l file) found x heads) (λ x. count_good l (count_told l file) size found x.1 limited) more.1)
@@ -138,7 +138,7 @@ module _ (l : Layout) (magic : ℕ) (file : List ℕ) (size : Table → ℕ) whe
       (one_of (IsBadRow l magic file) (IsBadTable l magic file size) (λ a b x y. row_good a x y.head y.heads y.limited)
       one_row (λ a b x y. one_size l (count_told l file) size a b x.which y.which)))
 
-  pub files_good : (found : Found) → IsBadFiles l magic file size found → l.meta ≤ length file → IsHead l magic file → HasHeads (bits_told file) (count_told l file) → ((t : Table) → count_told l file t ≤ limit_in l t)
+  pub files_good : (found : Found) → IsBadFiles l magic file size found → l.meta ≤ length file → IsHead l magic file → HasHeadOfEachBucket (bits_told file) (count_told l file) → ((t : Table) → count_told l file t ≤ limit_in l t)
       → ((t : Table) → count_told l file t * size_in l t ≤ size t) → ⊥
   files_good found bad long head heads limited holds = ⊎_elim
       (λ short. omega (arith, short.0, long))
@@ -182,7 +182,7 @@ meta_long magic counts rest file bits four is =
 
 -- one that stands for tables with a head for each bucket isn't bad
 pub settled_or_bad : (magic : List ℕ) (image files : Image) (counts : List ℕ) (bits : ℕ) (found : Found) → length magic ≡ 4 → length (image 29) < 2 ^ 62 → ((t : Table) → 0 < size_in FORMAT_2 t)
-    → StandsFor (Spells FORMAT_2) 20 29 files image → HasCounts FORMAT_2 (head_bytes magic bits) files counts → HasBits bits → HasHeads bits (count_at counts)
+    → ImageStandsFor (Spells FORMAT_2) 20 29 files image → HasCounts FORMAT_2 (head_bytes magic bits) files counts → HasBits bits → HasHeadOfEachBucket bits (count_at counts)
     → IsBadIndex FORMAT_2 (from_le_bytes w32 magic) image found → ⊥
 settled_or_bad magic image files counts bits found four small sized stands m may_be heads bad = ⊎_elim
     (λ body. stands_or_bad FORMAT_2 sized image files found small stands body)
@@ -193,7 +193,7 @@ settled_or_bad magic image files counts bits found four small sized stands m may
     files_good FORMAT_2 (from_le_bytes w32 magic) (files 20) (sizes_in FORMAT_2 files) found which
     (meta_long magic counts m.rest (files 20) bits four m.meta)
     (meta_head magic counts m.rest (files 20) bits four may_be m.meta)
-    (subst (λ b. HasHeads b (count_told FORMAT_2 (files 20))) (sym (bits_there magic counts m.rest (files 20) bits four may_be m.meta)) (subst (λ (c : Table → ℕ). HasHeads bits c) (sym same) heads))
+    (subst (λ b. HasHeadOfEachBucket b (count_told FORMAT_2 (files 20))) (sym (bits_there magic counts m.rest (files 20) bits four may_be m.meta)) (subst (λ (c : Table → ℕ). HasHeadOfEachBucket bits c) (sym same) heads))
     (λ t. omega (arith, told t, m.limited t))
     (λ t. subst (λ n. n * size_in FORMAT_2 t ≤ length (files (file_of FORMAT_2 t))) (sym (told t)) (m.holds t)))
     bad

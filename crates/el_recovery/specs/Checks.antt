@@ -13,12 +13,12 @@ use Rattle.el_rows.specs.Changes.{Changes}
 use Rattle.el_redo.specs.RedoBody.{change_bytes, changes_bytes, head_bytes}
 use Rattle.el_redo.specs.declared.faults.OpenFault.{OpenFault}
 use Rattle.el_redo.specs.declared.faults.OpenFault.TheVariants as fault
-use Rattle.el_redone.specs.Redone.{into, Fits, ends, IsClosed, StandsFor}
+use Rattle.el_redone.specs.Redone.{into, WritesFit, ends, IsClosed, ImageStandsFor}
 use Rattle.el_pages.specs.declared.layout.Layout.{Layout}
 use Rattle.el_pages.specs.declared.layout.TheConstants.{LETTERS, FORMAT_2}
 use Rattle.el_pages.specs.Layouts.{file_of, redo_of, size_in, limit_in}
 use Rattle.el_pages.specs.Records.{write_of, IsWhole, Spells}
-use Rattle.el_pages.specs.Indexes.{Shows}
+use Rattle.el_pages.specs.Indexes.{ShowsTables}
 
 -- a file, what was wanted, what was found
 abbrev pub Found : Type 0
@@ -29,12 +29,12 @@ abbrev pub bad_index : Found → OpenFault
 bad_index found = fault.BadIndex found.0 found.1 found.2
 
 -- nothing waits in a redo file: it has fewer than two bytes, or its gate isn't open
-abbrev pub NoneWaits : List ℕ → Type 0
-NoneWaits file = (length file < 2) ⊎ IsClosed file
+abbrev pub NoRecordWaits : List ℕ → Type 0
+NoRecordWaits file = (length file < 2) ⊎ IsClosed file
 
 -- the gate of a redo file is open: its first byte is 1, and there is one more at least
-abbrev pub IsOpen : List ℕ → Type 0
-IsOpen file = (rest : List ℕ) × (file ≡ 1 ∷ rest) × (2 ≤ length file)
+abbrev pub IsGateOpen : List ℕ → Type 0
+IsGateOpen file = (rest : List ℕ) × (file ≡ 1 ∷ rest) × (2 ≤ length file)
 
 -- the length of the body, as it stands in the eight bytes behind the gate
 abbrev pub length_told : List ℕ → ℕ
@@ -47,14 +47,15 @@ body_told file = take (length_told file) (drop 9 file)
 -- The body has a meta row, and then some whole changed rows, none of which begins after the end that its
 -- file then has; `rest` stands after them.
 pub record Reaches (l : Layout) (image : Image) (rest : List ℕ) (changes : Changes) : Type 0 where
-  pub opened : IsOpen (image (redo_of l))
+  pub opened : IsGateOpen (image (redo_of l))
   pub nine : 9 ≤ length (image (redo_of l))
   pub room : length_told (image (redo_of l)) ≤ length (image (redo_of l)) - 9
   pub meta : List ℕ
   pub long : length meta ≡ l.meta
   pub is : body_told (image (redo_of l)) ≡ meta ++ (changes_bytes changes ++ rest)
   pub whole : AllByRecursion (IsWhole l) changes
-  pub fits : (t : Table) → Fits (into (file_of l t) (map (write_of l) changes)) (length (image (file_of l t)))
+  pub fits : (t : Table) → WritesFit (into (file_of l t) (map (write_of l) changes))
+      (length (image (file_of l t)))
 
 -- how many rows a table's file then has
 abbrev pub rows_then : Layout → Image → Changes → Table → ℕ
@@ -63,20 +64,20 @@ rows_then l image changes t =
 
 -- The redo file has an open gate and no room for a length behind it.
 pub record IsShortFile (l : Layout) (image : Image) (found : Found) : Type 0 where
-  pub opened : IsOpen (image (redo_of l))
+  pub opened : IsGateOpen (image (redo_of l))
   pub short : length (image (redo_of l)) < 9
   pub is : found ≡ (redo_of l, 9, length (image (redo_of l)))
 
 -- The length reaches beyond the redo file's end.
 pub record IsLongBody (l : Layout) (image : Image) (found : Found) : Type 0 where
-  pub opened : IsOpen (image (redo_of l))
+  pub opened : IsGateOpen (image (redo_of l))
   pub nine : 9 ≤ length (image (redo_of l))
   pub beyond : length (image (redo_of l)) - 9 < length_told (image (redo_of l))
   pub is : found ≡ (redo_of l, length_told (image (redo_of l)), length (image (redo_of l)) - 9)
 
 -- The body is too short for a meta row.
 pub record IsShortBody (l : Layout) (image : Image) (found : Found) : Type 0 where
-  pub opened : IsOpen (image (redo_of l))
+  pub opened : IsGateOpen (image (redo_of l))
   pub nine : 9 ≤ length (image (redo_of l))
   pub room : length_told (image (redo_of l)) ≤ length (image (redo_of l)) - 9
   pub short : length_told (image (redo_of l)) < l.meta
@@ -147,8 +148,8 @@ abbrev pub HasBits : ℕ → Type 0
 HasBits bits = (MIN_HEAD_BITS ≤ bits) × (bits ≤ MAX_HEAD_BITS)
 
 -- each table of heads has a row for each bucket
-abbrev pub HasHeads : ℕ → (Table → ℕ) → Type 0
-HasHeads bits counts = (counts table.TxHeads ≡ 2 ^ bits) × (counts table.ScriptHeads ≡ 2 ^ bits)
+abbrev pub HasHeadOfEachBucket : ℕ → (Table → ℕ) → Type 0
+HasHeadOfEachBucket bits counts = (counts table.TxHeads ≡ 2 ^ bits) × (counts table.ScriptHeads ≡ 2 ^ bits)
 
 -- the meta file begins with the letters `ELIX`, the format, the network's magic, and a number of bits that
 -- may be
@@ -191,13 +192,13 @@ pub record IsBadSize (l : Layout) (count size : Table → ℕ) (found : Found) :
 abbrev pub IsBadRow : Layout → ℕ → List ℕ → Found → Type 0
 IsBadRow l magic file found = IsBadHead l magic file found
     ⊎ (IsHead l magic file × (IsBadHeads l (bits_told file) (count_told l file) found
-    ⊎ (HasHeads (bits_told file) (count_told l file) × IsBadCount l (count_told l file) found)))
+    ⊎ (HasHeadOfEachBucket (bits_told file) (count_told l file) × IsBadCount l (count_told l file) found)))
 
 -- a meta row is as it has to be, and a table's file isn't
 pub record IsBadTable (l : Layout) (magic : ℕ) (file : List ℕ) (size : Table → ℕ)
     (found : Found) : Type 0 where
   pub head : IsHead l magic file
-  pub heads : HasHeads (bits_told file) (count_told l file)
+  pub heads : HasHeadOfEachBucket (bits_told file) (count_told l file)
   pub limited : (t : Table) → count_told l file t ≤ limit_in l t
   pub which : IsBadSize l (count_told l file) size found
 
@@ -217,13 +218,13 @@ sizes_in l files t = length (files (file_of l t))
 pub record IsIndex (magic : List ℕ) (image : Image) (tables : Tables) : Type 0 where
   pub bits : ℕ
   pub may_be : HasBits bits
-  pub shows : Shows FORMAT_2 (head_bytes magic bits) image tables
-  pub heads : HasHeads bits (λ (t : Table). length (tables t))
+  pub shows : ShowsTables FORMAT_2 (head_bytes magic bits) image tables
+  pub heads : HasHeadOfEachBucket bits (λ (t : Table). length (tables t))
 
 -- The image's redo file isn't bad, and the files that it stands for are.
 pub record HasBadFiles (l : Layout) (magic : ℕ) (image : Image) (found : Found) : Type 0 where
   pub files : Image
-  pub stands : StandsFor (Spells l) l.first (redo_of l) files image
+  pub stands : ImageStandsFor (Spells l) l.first (redo_of l) files image
   pub which : IsBadFiles l magic (files l.first) (sizes_in l files) found
 
 -- The image stands for no tables that an opening takes: the first check that fails finds this.

@@ -13,7 +13,7 @@ disk_in (Ok store) = disk_below store
 disk_in (Err refused) = refused.1
 
 -- the store or the fault that an opening gives, without the disk
-abbrev pub opened : {D N : Type 0} {G : disk.Ghosts D} {H : network.Ghosts N}
+abbrev pub opening_result : {D N : Type 0} {G : disk.Ghosts D} {H : network.Ghosts N}
     → Result (Pages D N G H) (OpenFault × D) → Result (Pages D N G H) OpenFault
-opened (Ok store) = Ok store
-opened (Err refused) = Err refused.0
+opening_result (Ok store) = Ok store
+opening_result (Err refused) = Err refused.0

@@ -11,8 +11,8 @@ ghost use Rattle.el_redone.specs.Redone.{Write};
 ghost use Rattle.el_redone.specs.Steps.{Leaves};
 ghost use Rattle.el_pages.specs.Layouts.{file_of, redo_of, size_in};
 ghost use Rattle.el_recovery.specs.Checks.{Found, bad_index, IsBadNext, IsBadChange};
-ghost use Rattle.el_recovery.specs.within.Checking.{HasBody, IsChecked, IsNextRow};
-ghost use Rattle.el_recovery.specs.within.Redoing.{HasRecord};
+ghost use Rattle.el_recovery.specs.within.Checking.{HasBody, IsBodyChecked, IsNextRow};
+ghost use Rattle.el_recovery.specs.within.Redoing.{HasRedoRecord};
 
 use crate::redoing::{read_front, table_of};
 use el_outside::{Disk, DiskFailed};
@@ -139,11 +139,11 @@ fn check_change<D: Disk>(
     ensures further { IfOk result (λ to. at + 9 < to) }
     ensures within { IfOk result (λ to. to ≤ end) }
     ensures next { D.tells → (body stale rest : List ℕ) (changes : Changes)
-        → IsChecked layout.now (D.seen disk.old) body stale at end changes rest (count_at reach.old)
+        → IsBodyChecked layout.now (D.seen disk.old) body stale at end changes rest (count_at reach.old)
         → IfOk result (λ to. (more : Changes) × (after : List ℕ)
-        × IsChecked layout.now (D.seen disk.old) body stale to end more after (count_at reach.new)) }
+        × IsBodyChecked layout.now (D.seen disk.old) body stale to end more after (count_at reach.new)) }
     ensures bad { D.tells → (body stale rest : List ℕ) (changes : Changes)
-        → IsChecked layout.now (D.seen disk.old) body stale at end changes rest (count_at reach.old)
+        → IsBodyChecked layout.now (D.seen disk.old) body stale at end changes rest (count_at reach.old)
         → IfErr result (λ e. (e ≡ fault.DiskFailed) ⊎ ((found : Found) × (e ≡ bad_index found)
         × IsBadChange layout.now (D.seen disk.old) found)) }
     ensures only { IfErr result (λ e. (e ≡ fault.DiskFailed) ⊎ ((found : Found) × (e ≡ bad_index found))) }
@@ -170,7 +170,7 @@ pub(crate) fn check_body<D: Disk>(disk: &mut D, layout: &Layout, len: u64) -> Re
     requires low { 9 + len < SIZE_LIMIT }
     requires meta { layout.now.meta ≤ len }
     ensures ok { D.tells → (body stale : List ℕ) → HasBody layout.now (D.seen disk.old) len body stale
-        → OnOk result ((ws : List Write) × HasRecord layout.now (D.seen disk.old) len body stale ws) }
+        → OnOk result ((ws : List Write) × HasRedoRecord layout.now (D.seen disk.old) len body stale ws) }
     ensures bad { D.tells → (body stale : List ℕ) → HasBody layout.now (D.seen disk.old) len body stale
         → IfErr result (λ e. (e ≡ fault.DiskFailed) ⊎ ((found : Found) × (e ≡ bad_index found)
         × IsBadChange layout.now (D.seen disk.old) found)) }

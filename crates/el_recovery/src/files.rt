@@ -15,8 +15,8 @@ ghost use Rattle.el_pages.specs.declared.layout.TheConstants.{FORMAT_2};
 ghost use Rattle.el_pages.specs.Layouts.{file_of, size_in, limit_in};
 ghost use Rattle.el_pages.specs.Records.{meta_of};
 ghost use Rattle.el_pages.specs.Indexes.{HasCounts};
-ghost use Rattle.el_recovery.specs.Checks.{Found, bad_index, word, bits_told, count_told, HasBits, HasHeads, IsHead, IsBadHead, IsBadHeads, IsBadCount, IsBadSize, IsBadRow, IsBadFiles, sizes_in};
-ghost use Rattle.el_recovery.specs.within.Checking.{AreBytes};
+ghost use Rattle.el_recovery.specs.Checks.{Found, bad_index, word, bits_told, count_told, HasBits, HasHeadOfEachBucket, IsHead, IsBadHead, IsBadHeads, IsBadCount, IsBadSize, IsBadRow, IsBadFiles, sizes_in};
+ghost use Rattle.el_recovery.specs.within.Checking.{AreSoManyBytes};
 
 use crate::checking::{file_sizes, number_in};
 use crate::redoing::read_whole;
@@ -29,7 +29,7 @@ use el_row_formats::{MAX_HEAD_BITS, MIN_HEAD_BITS, TABLES, Table, bucket_count};
 fn word_at(meta: &[u8; 80], at: usize) -> u64
     requires { at + 4 ≤ 80 }
     ensures word { result ≡ word meta.now at }
-    ensures bytes { AreBytes meta.now 80 }
+    ensures bytes { AreSoManyBytes meta.now 80 }
 {
     let word = [meta[at], meta[at + 1], meta[at + 2], meta[at + 3]];
     u64::from(u32::from_le_bytes(word))
@@ -38,7 +38,7 @@ fn word_at(meta: &[u8; 80], at: usize) -> u64
 // The network's magic, as a number in four bytes.
 fn network_of(magic: &[u8; 4]) -> u64
     ensures number { result ≡ from_le_bytes w32 magic.now }
-    ensures bytes { AreBytes magic.now 4 }
+    ensures bytes { AreSoManyBytes magic.now 4 }
 {
     let [a, b, c, d] = *magic;
     u64::from(u32::from_le_bytes([a, b, c, d]))
@@ -84,7 +84,7 @@ fn check_bits(meta: &[u8; 80]) -> Result<u32, OpenFault>
 fn check_head(meta: &[u8; 80], magic: [u8; 4]) -> Result<u32, OpenFault>
     ensures ok { OnOk result (IsHead FORMAT_2 (from_le_bytes w32 magic) meta.now) }
     ensures bits { IfOk result (λ bits. (bits ≡ bits_told meta.now) × HasBits bits) }
-    ensures bytes { OnOk result (AreBytes meta.now 80 × AreBytes magic 4) }
+    ensures bytes { OnOk result (AreSoManyBytes meta.now 80 × AreSoManyBytes magic 4) }
     ensures bad { IfErr result (λ e. (found : Found) × (e ≡ bad_index found)
         × IsBadHead FORMAT_2 (from_le_bytes w32 magic) meta.now found) }
 {
@@ -152,7 +152,7 @@ fn check_head_count(counts: &[u64; TABLES], t: Table, rows: u64) -> Result<(), O
 // Whether each table of heads has a row for each bucket.
 fn check_heads(counts: &[u64; TABLES], bits: u32) -> Result<(), OpenFault>
     requires { bits ≤ MAX_HEAD_BITS }
-    ensures ok { OnOk result (HasHeads bits (count_at counts.now)) }
+    ensures ok { OnOk result (HasHeadOfEachBucket bits (count_at counts.now)) }
     ensures bad { IfErr result (λ e. (found : Found) × (e ≡ bad_index found)
         × IsBadHeads FORMAT_2 bits (count_at counts.now) found) }
 {
@@ -220,7 +220,7 @@ fn check_meta(meta: &[u8; 80], magic: [u8; 4]) -> Result<MetaRow, OpenFault>
     ensures bits { IfOk result (λ row. (row.bits ≡ bits_told meta.now) × HasBits row.bits) }
     ensures head { IfOk result (λ row. IsHead FORMAT_2 (from_le_bytes w32 magic) meta.now) }
     ensures is { IfOk result (λ row. meta.now ≡ meta_of (head_bytes magic row.bits) row.counts) }
-    ensures heads { IfOk result (λ row. HasHeads row.bits (count_at row.counts)) }
+    ensures heads { IfOk result (λ row. HasHeadOfEachBucket row.bits (count_at row.counts)) }
     ensures limited { IfOk result (λ row. (t : Table) → count_at row.counts t ≤ limit_in FORMAT_2 t) }
     ensures bad { IfErr result (λ e. (found : Found) × (e ≡ bad_index found)
         × IsBadRow FORMAT_2 (from_le_bytes w32 magic) meta.now found) }
@@ -253,7 +253,7 @@ pub(crate) fn check_files<D: Disk>(disk: &mut D, magic: [u8; 4]) -> Result<MetaR
     ensures has { D.tells → IfOk result (λ row.
         HasCounts FORMAT_2 (head_bytes magic row.bits) (D.seen disk.old) row.counts) }
     ensures bits { IfOk result (λ row. HasBits row.bits) }
-    ensures heads { IfOk result (λ row. HasHeads row.bits (count_at row.counts)) }
+    ensures heads { IfOk result (λ row. HasHeadOfEachBucket row.bits (count_at row.counts)) }
     ensures limited { IfOk result (λ row. (t : Table) → count_at row.counts t ≤ limit_of t) }
     ensures bad { D.tells → IfErr result (λ e. (e ≡ fault.DiskFailed) ⊎ ((found : Found)
         × (e ≡ bad_index found)

@@ -10,7 +10,7 @@ ghost use Rattle.el_redone.specs.Redone.{Write, overlaid, into};
 ghost use Rattle.el_redone.specs.Steps.{EachNow, Leaves, WillBe, IsAlikeTo, AreOnDisk, IsRootOnDisk, IsAtRest};
 ghost use Rattle.el_pages.specs.Layouts.{redo_of, size_in};
 ghost use Rattle.el_pages.specs.Records.{writes_of, Spells};
-ghost use Rattle.el_recovery.specs.within.Redoing.{HasRecord};
+ghost use Rattle.el_recovery.specs.within.Redoing.{HasRedoRecord};
 
 use crate::redoing::{read_whole, write_body};
 use el_outside::{Disk, DiskFailed};
@@ -57,14 +57,14 @@ pub(crate) fn write_files<D: Disk>(
     requires low { 9 + len < SIZE_LIMIT }
     requires room { layout.now.meta ≤ len }
     requires has { D.tells → (body stale : List ℕ) × (ws : List Write)
-        × HasRecord layout.now (D.seen disk.old) len body stale ws }
+        × HasRedoRecord layout.now (D.seen disk.old) len body stale ws }
     ensures crash { D.tells → (body stale : List ℕ) (ws : List Write) (files : Image) (file : List ℕ)
-        → HasRecord layout.now (D.seen disk.old) len body stale ws
+        → HasRedoRecord layout.now (D.seen disk.old) len body stale ws
         → EachNow ⟦<D as Disk>⟧ (WillBe layout.now.first (redo_of layout.now) files ws file) disk.old
         → Leaves ⟦<D as Disk>⟧ (WillBe layout.now.first (redo_of layout.now) files ws file)
         disk.old disk.new }
     ensures written { D.tells → (body stale : List ℕ) (ws : List Write)
-        → HasRecord layout.now (D.seen disk.old) len body stale ws
+        → HasRedoRecord layout.now (D.seen disk.old) len body stale ws
         → IfOk result (λ r. (r ≡ true)
         × ((f : ℕ) → D.seen disk.new f ≡ overlaid (into f ws) (D.seen disk.old f))) }
     ensures durable { D.tells → IfOk result (λ r. r ≡ true
@@ -96,16 +96,16 @@ pub(crate) fn redo<D: Disk>(disk: &mut D, layout: &Layout, len: u64) -> Result<b
     requires low { 9 + len < SIZE_LIMIT }
     requires room { layout.now.meta ≤ len }
     requires has { D.tells → (body stale : List ℕ) × (ws : List Write)
-        × HasRecord layout.now (D.seen disk.old) len body stale ws }
+        × HasRedoRecord layout.now (D.seen disk.old) len body stale ws }
     ensures crash { D.tells → (body stale : List ℕ) (ws : List Write)
-        → HasRecord layout.now (D.seen disk.old) len body stale ws
+        → HasRedoRecord layout.now (D.seen disk.old) len body stale ws
         → AreOnDisk ⟦<D as Disk>⟧ layout.now.first (redo_of layout.now) disk.old
         → OnDisk (redo_of layout.now) (D.seen disk.old) (LeftNow D.moment D.left_since disk.old)
         → IsRootOnDisk ⟦<D as Disk>⟧ (redo_of layout.now) disk.old
         → Leaves ⟦<D as Disk>⟧ (IsAlikeTo (Spells layout.now) layout.now.first (redo_of layout.now)
         (D.seen disk.old)) disk.old disk.new }
     ensures at_rest { D.tells → (body stale : List ℕ) (ws : List Write)
-        → HasRecord layout.now (D.seen disk.old) len body stale ws
+        → HasRedoRecord layout.now (D.seen disk.old) len body stale ws
         → AreOnDisk ⟦<D as Disk>⟧ layout.now.first (redo_of layout.now) disk.old
         → OnDisk (redo_of layout.now) (D.seen disk.old) (LeftNow D.moment D.left_since disk.old)
         → IsRootOnDisk ⟦<D as Disk>⟧ (redo_of layout.now) disk.old

@@ -9,15 +9,15 @@ ghost use Rattle.el_row_formats.specs.declared.table.Table.{Table};
 ghost use Rattle.el_rows.specs.Changes.{count_at};
 ghost use Rattle.el_redo.specs.RedoBody.{head_bytes};
 ghost use Rattle.el_redo.specs.declared.faults.OpenFault.TheVariants as fault;
-ghost use Rattle.el_redone.specs.Redone.{StandsFor};
+ghost use Rattle.el_redone.specs.Redone.{ImageStandsFor};
 ghost use Rattle.el_redone.specs.Steps.{EachNow, Leaves, AreOnDisk, IsRootOnDisk, IsAtRest, IsAlikeTo, IsAlike};
 ghost use Rattle.el_redone.specs.declared.steps.TheConstants.{ROOT};
 ghost use Rattle.el_pages.specs.declared.layout.TheConstants.{FORMAT_2};
 ghost use Rattle.el_pages.specs.Layouts.{redo_of, size_in};
 ghost use Rattle.el_pages.specs.Records.{Spells};
-ghost use Rattle.el_recovery.specs.Checks.{Found, bad_index, NoneWaits, length_told, IsBadBody, IsBadIndex, HasBits, HasHeads, IsIndex};
+ghost use Rattle.el_recovery.specs.Checks.{Found, bad_index, NoRecordWaits, length_told, IsBadBody, IsBadIndex, HasBits, HasHeadOfEachBucket, IsIndex};
 ghost use Rattle.el_pages.specs.Indexes.{HasCounts, IsRooted, ShowsFor};
-ghost use Rattle.el_recovery.specs.Openings.{disk_in, opened};
+ghost use Rattle.el_recovery.specs.Openings.{disk_in, opening_result};
 ghost use Rattle.el_pages.specs.Stores.{disk_below, rows_of, bits_of, IsLive};
 
 use crate::checking::check_body;
@@ -49,7 +49,7 @@ pub fn finish<D: Disk>(disk: &mut D, layout: &Layout) -> Result<(), OpenFault>
         → D.seen disk.old (redo_of layout.now) ≡ 0 ∷ [] }
     ensures rest { D.tells → OnOk result
         (IsAtRest ⟦<D as Disk>⟧ layout.now.first (redo_of layout.now) disk.new) }
-    ensures stands { D.tells → OnOk result (StandsFor (Spells layout.now) layout.now.first
+    ensures stands { D.tells → OnOk result (ImageStandsFor (Spells layout.now) layout.now.first
         (redo_of layout.now) (D.seen disk.new) (D.seen disk.old)) }
     ensures bad { D.tells → IfErr result (λ e. (e ≡ fault.DiskFailed) ⊎ ((found : Found)
         × (e ≡ bad_index found) × IsBadBody layout.now (D.seen disk.old) found
@@ -61,7 +61,7 @@ pub fn finish<D: Disk>(disk: &mut D, layout: &Layout) -> Result<(), OpenFault>
         → D.seen disk.new f ≡ D.seen disk.old f }
     ensures calls { D.tells → 2 * D.calls disk.new
         ≤ 2 * D.calls disk.old + (225 + length_told (D.seen disk.old (redo_of layout.now))) }
-    ensures quiet { D.tells → NoneWaits (D.seen disk.old (redo_of layout.now))
+    ensures quiet { D.tells → NoRecordWaits (D.seen disk.old (redo_of layout.now))
         → D.calls disk.new ≤ D.calls disk.old + 2 }
     ensures cause { CountsOnly (D.faults disk.old) (D.faults disk.new) fault.DiskFailed result }
 {
@@ -85,10 +85,10 @@ fn settle<D: Disk>(disk: &mut D, magic: [u8; 4]) -> Result<MetaRow, OpenFault>
     ensures has { D.tells → IfOk result (λ row.
         HasCounts FORMAT_2 (head_bytes magic row.bits) (D.seen disk.new) row.counts) }
     ensures bits { IfOk result (λ row. HasBits row.bits) }
-    ensures heads { IfOk result (λ row. HasHeads row.bits (count_at row.counts)) }
+    ensures heads { IfOk result (λ row. HasHeadOfEachBucket row.bits (count_at row.counts)) }
     ensures limited { IfOk result (λ row. (t : Table) → count_at row.counts t ≤ limit_of t) }
     ensures stands { D.tells → OnOk result
-        (StandsFor (Spells FORMAT_2) 20 29 (D.seen disk.new) (D.seen disk.old)) }
+        (ImageStandsFor (Spells FORMAT_2) 20 29 (D.seen disk.new) (D.seen disk.old)) }
     ensures bad { D.tells → IfErr result (λ e. (e ≡ fault.DiskFailed) ⊎ ((found : Found)
         × (e ≡ bad_index found)
         × IsBadIndex FORMAT_2 (from_le_bytes w32 magic) (D.seen disk.old) found)) }
@@ -106,7 +106,7 @@ fn settle<D: Disk>(disk: &mut D, magic: [u8; 4]) -> Result<MetaRow, OpenFault>
     ensures root { D.tells → OnOk result (D.seen disk.new ROOT ≡ D.seen disk.old ROOT) }
     ensures calls { D.tells → 2 * D.calls disk.new
         ≤ 2 * D.calls disk.old + (273 + length_told (D.seen disk.old 29)) }
-    ensures quiet { D.tells → NoneWaits (D.seen disk.old 29) → D.calls disk.new ≤ D.calls disk.old + 26 }
+    ensures quiet { D.tells → NoRecordWaits (D.seen disk.old 29) → D.calls disk.new ≤ D.calls disk.old + 26 }
     ensures cause { CountsOnly (D.faults disk.old) (D.faults disk.new) fault.DiskFailed result }
 {
     begin(
@@ -142,7 +142,7 @@ pub fn open_pages<D: Disk, N: NetworkMagic>(
     // Each of its tables of heads has a row for each bucket, over any disk.
     ensures bits { IfOk result (λ store. HasBits (bits_of store)) }
     ensures heads { IfOk result (λ store.
-        HasHeads (bits_of store) (⟦<Pages<D, N> as el_rows::Rows>⟧.counts store)) }
+        HasHeadOfEachBucket (bits_of store) (⟦<Pages<D, N> as el_rows::Rows>⟧.counts store)) }
     // Each image of each moment in it stands for all files for which one stands that a crash might have left
     // before, and for no others, and has its root: so it stands for the same tables, whichever network they
     // are for.
@@ -171,11 +171,12 @@ pub fn open_pages<D: Disk, N: NetworkMagic>(
         → ⟦<Pages<D, N> as el_rows::Rows>⟧.beside store f ≡ D.seen disk f) }
     // Where nothing waits it makes few calls of the disk, and else at most one for each two bytes of the
     // body besides.
-    ensures quiet { D.tells → NoneWaits (D.seen disk 29)
+    ensures quiet { D.tells → NoRecordWaits (D.seen disk 29)
         → D.calls (disk_in result) ≤ D.calls disk + 26 }
     ensures calls { D.tells → 2 * D.calls (disk_in result)
         ≤ 2 * D.calls disk + (273 + length_told (D.seen disk 29)) }
-    ensures cause { CountsOnly (D.faults disk) (D.faults (disk_in result)) fault.DiskFailed (opened result) }
+    ensures cause { CountsOnly (D.faults disk) (D.faults (disk_in result)) fault.DiskFailed
+        (opening_result result) }
 {
     let mut disk = disk;
     let row = match settle(&mut disk, N::magic()) {

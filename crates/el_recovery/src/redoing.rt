@@ -10,7 +10,7 @@ ghost use Rattle.el_row_formats.specs.declared.table.Table.{Table};
 ghost use Rattle.el_row_formats.specs.Tables.{key, number_of};
 ghost use Rattle.el_rows.specs.Changes.{Changes};
 ghost use Rattle.el_redo.specs.RedoBody.{change_bytes, changes_bytes};
-ghost use Rattle.el_redone.specs.Redone.{Write, overlaid, Fits, into};
+ghost use Rattle.el_redone.specs.Redone.{Write, overlaid, WritesFit, into};
 ghost use Rattle.el_redone.specs.Steps.{EachNow, Leaves, WillBe};
 ghost use Rattle.el_pages.specs.Layouts.{file_of, redo_of, size_in};
 ghost use Rattle.el_pages.specs.Records.{write_of, writes_of, IsWhole};

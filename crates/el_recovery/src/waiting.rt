@@ -8,7 +8,7 @@ ghost use Rattle.el_redo.specs.declared.faults.OpenFault.TheVariants as fault;
 ghost use Rattle.el_redone.specs.Redone.{IsClosed};
 ghost use Rattle.el_redone.specs.Steps.{Leaves};
 ghost use Rattle.el_pages.specs.Layouts.{redo_of};
-ghost use Rattle.el_recovery.specs.Checks.{Found, bad_index, NoneWaits, IsBadRecord};
+ghost use Rattle.el_recovery.specs.Checks.{Found, bad_index, NoRecordWaits, IsBadRecord};
 ghost use Rattle.el_recovery.specs.within.Checking.{HasBody};
 
 use crate::redoing::read_front;
@@ -69,7 +69,7 @@ fn told(layout: &Layout, size: u64, front: &[u8; 9]) -> Result<Option<u64>, Open
 pub(crate) fn waiting<D: Disk>(disk: &mut D, layout: &Layout) -> Result<Option<u64>, OpenFault>
     requires few { layout.now.first + 9 < 4294967296 }
     ensures none { D.tells → IfOk result (λ w. w ≡ None
-        → NoneWaits (D.seen disk.old (redo_of layout.now))) }
+        → NoRecordWaits (D.seen disk.old (redo_of layout.now))) }
     ensures some { D.tells → IfOk result (λ w. IfSome w (λ len. (body : List ℕ) × (stale : List ℕ)
         × HasBody layout.now (D.seen disk.old) len body stale)) }
     ensures low { IfOk result (λ w. IfSome w (λ len. 9 + len < SIZE_LIMIT)) }

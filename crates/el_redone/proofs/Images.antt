@@ -3,7 +3,7 @@ use Rattle.std.proofs.Common.{◌≡◌, ◌≢◌, inl, inr, ⊎_elim, ℕ, suc
 use Rattle.std.proofs.lemmas.Bool.{cases_eq}
 use Rattle.std.proofs.lemmas.List.{ext_get_or}
 use Rattle.el_outside.specs.Disk.{Image, Torn, OnFile}
-use Rattle.el_redone.specs.Redone.{Write, overlaid, Fits, into, Covers}
+use Rattle.el_redone.specs.Redone.{Write, overlaid, WritesFit, into, Covers}
 use Rattle.el_redone.specs.declared.steps.TheConstants.{ROOT}
 use Rattle.el_redone.specs.Steps.{IsAside, IsGated, WillBe}
 use Rattle.el_redone.proofs.Writes.{torn_overlaid, fits_more}
@@ -58,7 +58,7 @@ module _ (first redo : ℕ) (files : Image) where
         (λ ne. ap (λ (b : List ℕ). overlaid (into g ws) b) (step.others g ne))
         (cases_eq g f) ∙ was.same g ge lt;
     fits = λ g ge lt. ⊎_elim
-        (λ (is : g ≡ f). subst (λ h. Fits (into h ws) (length (c h))) (sym is) (fits_more (into f ws) _ _ step.here.no_shorter (was.fits f low high)))
-        (λ ne. subst (λ (b : List ℕ). Fits (into g ws) (length b)) (sym (step.others g ne)) (was.fits g ge lt))
+        (λ (is : g ≡ f). subst (λ h. WritesFit (into h ws) (length (c h))) (sym is) (fits_more (into f ws) _ _ step.here.no_shorter (was.fits f low high)))
+        (λ ne. subst (λ (b : List ℕ). WritesFit (into g ws) (length b)) (sym (step.others g ne)) (was.fits g ge lt))
         (cases_eq g f);
   }

@@ -5,14 +5,14 @@ use Rattle.std.proofs.lemmas.Bool.Decides.{nat_tests}
 use Rattle.std.proofs.lemmas.List.{ext_get_or, take_at, drop_at, drop-drop, length-take-le, take-append-drop}
 use Rattle.el_outside.specs.Disk.{over, Torn}
 use Rattle.el_outside.proofs.Bytes.{length-over, over_before, over_in, over_after}
-use Rattle.el_redone.specs.Redone.{Write, overlaid, Fits, into, Untouched, ends, Covers}
+use Rattle.el_redone.specs.Redone.{Write, overlaid, WritesFit, into, NoneCovers, ends, Covers}
 
-pub fits_more : (ws : List Write) (m n : ℕ) → m ≤ n → Fits ws m → Fits ws n
+pub fits_more : (ws : List Write) (m n : ℕ) → m ≤ n → WritesFit ws m → WritesFit ws n
 fits_more [] m n le fits = tt
 fits_more (w ∷ ws) m n le fits = (omega (arith, fits.0), fits_more ws (max m (w.at + length w.bytes)) (max n (w.at + length w.bytes)) (omega arith) fits.1)
 
-pub fits_same : (ws : List Write) (m n : ℕ) → m ≡ n → Fits ws m → Fits ws n
-fits_same ws m n is fits = subst (Fits ws) is fits
+pub fits_same : (ws : List Write) (m n : ℕ) → m ≡ n → WritesFit ws m → WritesFit ws n
+fits_same ws m n is fits = subst (WritesFit ws) is fits
 
 -- a write of the same bytes at the same place brings together what differed there alone
 over_same : (w : Write) (b d : List ℕ) (k : ℕ) → w.at ≤ length b → w.at ≤ length d → ((k < w.at) ⊎ (w.at + length w.bytes ≤ k) → get_or b k 0 ≡ get_or d k 0) → get_or (over b w.at w.bytes) k 0 ≡ get_or (over d w.at w.bytes) k 0
@@ -25,8 +25,8 @@ over_same w b d k fb fd same = ⊎_elim
     (cases_lt k w.at)
 
 -- two files that differ only where writes go are the same afterwards
-pub same_overlaid : (ws : List Write) (b d : List ℕ) → Fits ws (length b) → Fits ws (length d) → max (length b) (ends ws) ≡ max (length d) (ends ws)
-    → ((k : ℕ) → Untouched ws k → get_or b k 0 ≡ get_or d k 0) → overlaid ws b ≡ overlaid ws d
+pub same_overlaid : (ws : List Write) (b d : List ℕ) → WritesFit ws (length b) → WritesFit ws (length d) → max (length b) (ends ws) ≡ max (length d) (ends ws)
+    → ((k : ℕ) → NoneCovers ws k → get_or b k 0 ≡ get_or d k 0) → overlaid ws b ≡ overlaid ws d
 same_overlaid [] b d fits_b fits_d size same = ext_get_or 0 b d (omega (arith, size)) (λ k lt. same k tt)
 same_overlaid (w ∷ ws) b d fits_b fits_d size same =
     let long_b = length-over b w.at w.bytes fits_b.0 in
@@ -38,30 +38,30 @@ same_overlaid (w ∷ ws) b d fits_b fits_d size same =
     (λ k out. over_same w b d k fits_b.0 fits_d.0 (λ there. same k (there, out)))
 
 -- a torn write of places that they cover changes nothing of what they make of the file
-pub torn_overlaid : (ws : List Write) (at n : ℕ) (d c : List ℕ) → Covers ws at n → Fits ws (length d) → Torn at n d c → overlaid ws c ≡ overlaid ws d
+pub torn_overlaid : (ws : List Write) (at n : ℕ) (d c : List ℕ) → Covers ws at n → WritesFit ws (length d) → Torn at n d c → overlaid ws c ≡ overlaid ws d
 torn_overlaid ws at n d c covers fits torn =
     same_overlaid ws c d (fits_more ws (length d) (length c) torn.no_shorter fits) fits
     (omega (arith, torn.no_shorter, torn.no_longer, covers.within))
     (λ k out. torn.same k (covers.each k out))
 
 -- what the writes leave where they don't go, and the size
-pub overlaid_untouched : (ws : List Write) (b : List ℕ) (k : ℕ) → Fits ws (length b) → Untouched ws k → get_or (overlaid ws b) k 0 ≡ get_or b k 0
+pub overlaid_untouched : (ws : List Write) (b : List ℕ) (k : ℕ) → WritesFit ws (length b) → NoneCovers ws k → get_or (overlaid ws b) k 0 ≡ get_or b k 0
 overlaid_untouched [] b k fits out = refl
 overlaid_untouched (w ∷ ws) b k fits out =
     overlaid_untouched ws (over b w.at w.bytes) k (fits_same ws _ _ (sym (length-over b w.at w.bytes fits.0)) fits.1) out.1
     ∙ ⊎_elim (λ before. over_before b w.at w.bytes k fits.0 before) (λ after. over_after b w.at w.bytes k fits.0 after) out.0
 
-pub length-overlaid : (ws : List Write) (b : List ℕ) → Fits ws (length b) → length (overlaid ws b) ≡ max (length b) (ends ws)
+pub length-overlaid : (ws : List Write) (b : List ℕ) → WritesFit ws (length b) → length (overlaid ws b) ≡ max (length b) (ends ws)
 length-overlaid [] b fits = omega arith
 length-overlaid (w ∷ ws) b fits =
     let long = length-over b w.at w.bytes fits.0 in
     omega (arith, long, length-overlaid ws (over b w.at w.bytes) (fits_same ws _ _ (sym long) fits.1))
 
-pub fits_overlaid : (ws : List Write) (b : List ℕ) → Fits ws (length b) → Fits ws (length (overlaid ws b))
+pub fits_overlaid : (ws : List Write) (b : List ℕ) → WritesFit ws (length b) → WritesFit ws (length (overlaid ws b))
 fits_overlaid ws b fits = fits_more ws (length b) (length (overlaid ws b)) (omega (arith, length-overlaid ws b fits)) fits
 
 -- making them again changes nothing
-pub overlaid_twice : (ws : List Write) (b : List ℕ) → Fits ws (length b) → overlaid ws (overlaid ws b) ≡ overlaid ws b
+pub overlaid_twice : (ws : List Write) (b : List ℕ) → WritesFit ws (length b) → overlaid ws (overlaid ws b) ≡ overlaid ws b
 overlaid_twice ws b fits =
     same_overlaid ws (overlaid ws b) b (fits_overlaid ws b fits) fits (omega (arith, length-overlaid ws b fits)) (λ k out. overlaid_untouched ws b k fits out)
 
@@ -89,7 +89,7 @@ overlaid_append (x ∷ xs) ys b = overlaid_append xs ys (over b x.at x.bytes)
 pub covers_none : (ws : List Write) (at : ℕ) → at ≤ ends ws → Covers ws at 0
 covers_none ws at le = record { each = λ k out. ⊎_elim (λ lt. inl lt) (λ ge. inr (omega (arith, ge))) (cases_lt k at); within = omega (arith, le) }
 
-untouched_in : (done : List Write) (w : Write) (rest : List Write) (k : ℕ) → Untouched (done ++ w ∷ rest) k → (k < w.at) ⊎ (w.at + length w.bytes ≤ k)
+untouched_in : (done : List Write) (w : Write) (rest : List Write) (k : ℕ) → NoneCovers (done ++ w ∷ rest) k → (k < w.at) ⊎ (w.at + length w.bytes ≤ k)
 untouched_in [] w rest k out = out.0
 untouched_in (x ∷ done) w rest k out = untouched_in done w rest k out.1
 
@@ -100,7 +100,7 @@ ends_in (x ∷ done) w rest = omega (arith, ends_in done w rest)
 -- by one of them
 pub covers_one : (ws done : List Write) (w : Write) (rest : List Write) → ws ≡ done ++ w ∷ rest → Covers ws w.at (length w.bytes)
 covers_one ws done w rest is = record {
-  each = λ k out. untouched_in done w rest k (subst (λ (l : List Write). Untouched l k) is out);
+  each = λ k out. untouched_in done w rest k (subst (λ (l : List Write). NoneCovers l k) is out);
   within = subst (λ (l : List Write). w.at + length w.bytes ≤ ends l) (sym is) (ends_in done w rest);
 }
 

@@ -3,7 +3,7 @@ use Rattle.std.specs.Prelude.{◌≡◌, ◌≢◌, ◌⊎◌, ◌≤◌, ◌<�
 use Rattle.el_outside.specs.declared.disk.Disk as disk
 use Rattle.el_outside.specs.Disk.{Image, OnDisk}
 use Rattle.el_outside.specs.Moments.{LeftNow, LeavesOnly}
-use Rattle.el_redone.specs.Redone.{Write, overlaid, Fits, into, IsClosed, StandsAlike}
+use Rattle.el_redone.specs.Redone.{Write, overlaid, WritesFit, into, IsClosed, StandsAlike}
 use Rattle.el_redone.specs.declared.steps.TheConstants.{ROOT}
 
 -- each image that a crash now may leave has P
@@ -44,7 +44,7 @@ pub record WillBe (first redo : ℕ) (files : Image) (ws : List Write) (file : L
   pub file_is : c redo ≡ file
   pub root : HasRoot redo files c
   pub same : (f : ℕ) → first ≤ f → f < redo → overlaid (into f ws) (c f) ≡ files f
-  pub fits : (f : ℕ) → first ≤ f → f < redo → Fits (into f ws) (length (c f))
+  pub fits : (f : ℕ) → first ≤ f → f < redo → WritesFit (into f ws) (length (c f))
 
 -- the files from `first` up to `redo` are on the disk
 abbrev pub AreOnDisk : {D : Type 0} → disk.Ghosts D → ℕ → ℕ → D → Type 0

@@ -7,7 +7,7 @@ use Rattle.el_outside.specs.Counts.{CountsOnly}
 use Rattle.el_outside.specs.Relays.{Offer, GoesOnBy}
 use Rattle.el_relay.specs.declared.fault.OfferFault.{OfferFault}
 use Rattle.el_relay.specs.declared.fault.OfferFault.TheVariants as fault
-use Rattle.el_relay.specs.Desk.{DeskState, HasReason, said, Adds}
+use Rattle.el_relay.specs.Desk.{DeskState, HasReason, said, AddsOffer}
 
 -- the relay wasn't asked
 abbrev pub Unasked : DeskState → OfferFault → Type 0
@@ -20,7 +20,7 @@ reason_on desk bytes r e is reason = subst (λ (x : Result Hash32 OfferFault). H
 
 -- nothing was added
 pub adds_none : (desk : DeskState) (bytes : List ℕ) (r : Result Hash32 OfferFault) (e : OfferFault) (offers : List Offer) → r ≡ Err e
-    → Unasked desk e → Adds desk bytes r offers offers
+    → Unasked desk e → AddsOffer desk bytes r offers offers
 adds_none desk bytes r e offers is none =
     let unasked : said desk r ≡ None = ap (said desk) is ∙ none in
     subst (λ (o : Option (Result Verdict RelayFailed)). MatchOption o (offers ≡ offers) (λ by. GoesOnBy offers offers bytes by)) (sym unasked) refl

@@ -70,8 +70,8 @@ said desk (Err other) = None
 
 -- What a broadcast of these bytes that was answered so makes of the list of the relay's calls: it has one
 -- more where the relay was asked, but for one that failed, which may be missing.
-abbrev pub Adds : DeskState → List ℕ → Result Hash32 OfferFault → List Offer → List Offer → Type 0
-Adds desk bytes answer before after =
+abbrev pub AddsOffer : DeskState → List ℕ → Result Hash32 OfferFault → List Offer → List Offer → Type 0
+AddsOffer desk bytes answer before after =
     MatchOption (said desk answer) (after ≡ before) (λ by. GoesOnBy before after bytes by)
 
 -- the desk after a broadcast that was answered so: a txid that the relay took is its newest

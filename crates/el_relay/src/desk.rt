@@ -7,7 +7,7 @@ ghost use Rattle.el_tx.specs.declared.types.Tx as shape;
 ghost use Rattle.el_tx.specs.Encoding.{Encodes};
 ghost use Rattle.el_tx.specs.Hashing as hashing;
 ghost use Rattle.el_chain.specs.Headers.{same_hash};
-ghost use Rattle.el_relay.specs.Desk.{DeskState, IsSendable, HasReason, Adds, said, desk_after, empty_desk, with_txid};
+ghost use Rattle.el_relay.specs.Desk.{DeskState, IsSendable, HasReason, AddsOffer, said, desk_after, empty_desk, with_txid};
 
 use crate::fault::OfferFault;
 use el_base::{Hash32, OutOfMemory};
@@ -119,7 +119,8 @@ impl Desk {
     pub fn broadcast<Y: Relay>(&mut self, relay: &mut Y, bytes: &[u8]) -> Result<Hash32, OfferFault>
         ensures reason { HasReason self.old bytes.now result }
         ensures desk { self.new ≡ desk_after self.old result }
-        ensures adds { Y.tells → Adds self.old bytes.now result (Y.offers relay.old) (Y.offers relay.new) }
+        ensures adds { Y.tells → AddsOffer self.old bytes.now result (Y.offers relay.old)
+            (Y.offers relay.new) }
         ensures called { Y.calls relay.new
             ≡ Y.calls relay.old + (if is_some (said self.old result) then 1 else 0) }
         ensures cause { CountsOnly (Y.faults relay.old) (Y.faults relay.new) OfferFault.RelayFailed result }

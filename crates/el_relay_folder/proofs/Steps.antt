@@ -7,7 +7,7 @@ use Rattle.el_base.specs.declared.hash.Hash32.{Hash32}
 use Rattle.el_tx.specs.declared.types.Tx.{Tx}
 use Rattle.el_tx.specs.Encoding.{Encodes}
 use Rattle.el_tx.specs.Hashing.{txid}
-use Rattle.el_relay_folder.specs.Outboxes.{TxFile, Draft, empty_draft, longer, durable, Files, HasFile, PutsNone, PutsOnly, PutsWhole}
+use Rattle.el_relay_folder.specs.Outboxes.{TxFile, Draft, empty_draft, with_more_text, durable, Files, HasFile, PutsNone, PutsOnly, PutsWhole}
 
 -- nothing was done
 pub none_same : (a : Files) → PutsNone a a
@@ -29,7 +29,7 @@ none_then_only file a b c one two = record {
 }
 
 -- a file was written, and then put
-pub written_then_put : (d : Draft) (id : Hash32) (text : List ℕ) (a b c e : Files) → d ≡ durable (longer (empty_draft id) text)
+pub written_then_put : (d : Draft) (id : Hash32) (text : List ℕ) (a b c e : Files) → d ≡ durable (with_more_text (empty_draft id) text)
     → PutsNone a b → PutsNone b c → (d.is_synced ≡ true → PutsOnly d.file c e) → PutsOnly (record { txid = id; text = text }) a e
 written_then_put d id text a b c e is one two only =
     none_then_only (record { txid = id; text = text }) a c e (none_then a b c one two)
@@ -78,7 +78,7 @@ grown text done n =
 -- A file has a front of the text after what it had: whatever is added to it, it is as if the front and that had
 -- been added at once.
 abbrev pub HasFront : Draft → Draft → List ℕ → Type 0
-HasFront before now front = (t : List ℕ) → longer now t ≡ longer before (front ++ t)
+HasFront before now front = (t : List ℕ) → with_more_text now t ≡ with_more_text before (front ++ t)
 
 -- what was written of the rest
 rest_of : (text : List ℕ) (done n : ℕ) → n ≤ length text - done → take n (take (length text - done) (drop done text)) ≡ take n (drop done text)
@@ -90,7 +90,7 @@ length_rest done text = omega (arith, length-take (length text - done) (drop don
 
 -- nothing was written
 pub front_kept : (b d e : Draft) (text : List ℕ) (done : ℕ) → e ≡ d → HasFront b d (take done text) → HasFront b e (take done text)
-front_kept b d e text done is before t = ap (λ (x : Draft). longer x t) is ∙ before t
+front_kept b d e text done is before t = ap (λ (x : Draft). with_more_text x t) is ∙ before t
 
 -- nothing was written yet
 pub front_none : (b : Draft) (text : List ℕ) → HasFront b b (take 0 text)
@@ -98,18 +98,18 @@ front_none b text t = refl
 
 -- more of the text was written
 pub front_more : (b d e : Draft) (text : List ℕ) (done n : ℕ) → HasFront b d (take done text)
-    → n ≤ length text - done → e ≡ longer d (take n (take (length text - done) (drop done text))) → HasFront b e (take (done + n) text)
+    → n ≤ length text - done → e ≡ with_more_text d (take n (take (length text - done) (drop done text))) → HasFront b e (take (done + n) text)
 front_more b d e text done n before le is t =
     let next : List ℕ = take n (drop done text) in
-    ap (λ (x : Draft). longer x t) (is ∙ ap (longer d) (rest_of text done n le))
+    ap (λ (x : Draft). with_more_text x t) (is ∙ ap (with_more_text d) (rest_of text done n le))
     ∙ ap (λ (x : List ℕ). record { file = record { txid = d.file.txid; text = x }; is_synced = false }) (append_assoc d.file.text next t)
     ∙ before (next ++ t)
-    ∙ ap (longer b) (sym (append_assoc (take done text) next t) ∙ ap (λ (x : List ℕ). x ++ t) (grown text done n))
+    ∙ ap (with_more_text b) (sym (append_assoc (take done text) next t) ∙ ap (λ (x : List ℕ). x ++ t) (grown text done n))
 
 -- the rest of the text was written
 pub front_all : (b d e : Draft) (text : List ℕ) (done n : ℕ) → done ≤ length text → HasFront b d (take done text)
-    → n ≡ length text - done → e ≡ longer d (take n (take (length text - done) (drop done text))) → e ≡ longer b text
+    → n ≡ length text - done → e ≡ with_more_text d (take n (take (length text - done) (drop done text))) → e ≡ with_more_text b text
 front_all b d e text done n within before all is =
-    is ∙ ap (longer d) (rest_of text done n (omega (arith, all)))
+    is ∙ ap (with_more_text d) (rest_of text done n (omega (arith, all)))
     ∙ before (take n (drop done text))
-    ∙ ap (longer b) (grown text done n ∙ take_all (done + n) text (omega (arith, all, within)))
+    ∙ ap (with_more_text b) (grown text done n ∙ take_all (done + n) text (omega (arith, all, within)))

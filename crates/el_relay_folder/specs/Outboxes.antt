@@ -21,8 +21,8 @@ abbrev pub empty_draft : Hash32 → Draft
 empty_draft id = record { file = record { txid = id; text = [] }; is_synced = false }
 
 -- the file with more text, of which nothing need be on the disk
-abbrev pub longer : Draft → List ℕ → Draft
-longer draft text = record {
+abbrev pub with_more_text : Draft → List ℕ → Draft
+with_more_text draft text = record {
   file = record { txid = draft.file.txid; text = draft.file.text ++ text };
   is_synced = false;
 }

@@ -1,7 +1,7 @@
 // A folder of transactions that wait, as the system's calls give it.
 ghost use Rattle.std.specs.Prelude.{◌≡◌, ◌≤◌, [], ◌∷◌, ◌++◌, true, length, take, IfOk, IfErr, OnOk};
 ghost use Rattle.std.specs.IoError.{error_kind};
-ghost use Rattle.el_relay_folder.specs.Outboxes.{empty_draft, longer, durable, HasFile, PutsNone, PutsOnly};
+ghost use Rattle.el_relay_folder.specs.Outboxes.{empty_draft, with_more_text, durable, HasFile, PutsNone, PutsOnly};
 
 use el_base::Hash32;
 use std::io;
@@ -46,7 +46,7 @@ pub trait Outbox {
     fn write(&mut self, file: &mut Self::Draft, text: &[u8]) -> io::Result<usize>
         ensures within { IfOk result (λ n. n ≤ length text.now) }
         ensures written { tells → IfOk result (λ n.
-            draft file.new ≡ longer (draft file.old) (take n text.now)) }
+            draft file.new ≡ with_more_text (draft file.old) (take n text.now)) }
 
         ensures interrupted { tells → IfErr result (λ e.
             error_kind e ≡ ErrorKind.Interrupted → draft file.new ≡ draft file.old) }

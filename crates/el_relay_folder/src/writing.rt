@@ -1,6 +1,6 @@
 // A transaction's file, written and put under its name.
 ghost use Rattle.std.specs.Prelude.{◌≡◌, true, IfOk, OnOk};
-ghost use Rattle.el_relay_folder.specs.Outboxes.{empty_draft, longer, durable, HasFile, PutsNone, PutsOnly};
+ghost use Rattle.el_relay_folder.specs.Outboxes.{empty_draft, with_more_text, durable, HasFile, PutsNone, PutsOnly};
 
 use crate::outbox::Outbox;
 use el_base::Hash32;
@@ -12,7 +12,7 @@ pub const MOST_WAITING: u64 = 10_000;
 
 // Adds all of the text after what the file has. A call that was interrupted is made again.
 fn write_all<F: Outbox>(outbox: &mut F, file: &mut F::Draft, text: &[u8]) -> io::Result<()>
-    ensures written { F.tells → OnOk result (F.draft file.new ≡ longer (F.draft file.old) text.now) }
+    ensures written { F.tells → OnOk result (F.draft file.new ≡ with_more_text (F.draft file.old) text.now) }
     ensures none { F.tells → PutsNone (F.files outbox.old) (F.files outbox.new) }
 {
     let mut done = 0usize;
@@ -31,7 +31,7 @@ fn write_all<F: Outbox>(outbox: &mut F, file: &mut F::Draft, text: &[u8]) -> io:
 // Writes the text into a file that has none, and makes it durable.
 fn fill<F: Outbox>(outbox: &mut F, file: &mut F::Draft, text: &[u8]) -> io::Result<()>
     ensures written { F.tells
-        → OnOk result (F.draft file.new ≡ durable (longer (F.draft file.old) text.now)) }
+        → OnOk result (F.draft file.new ≡ durable (with_more_text (F.draft file.old) text.now)) }
     ensures none { F.tells → PutsNone (F.files outbox.old) (F.files outbox.new) }
 {
     write_all(outbox, file, text)?;
@@ -41,7 +41,7 @@ fn fill<F: Outbox>(outbox: &mut F, file: &mut F::Draft, text: &[u8]) -> io::Resu
 // Writes a file for the transaction with that text, all of which is on the disk then.
 fn write_draft<F: Outbox>(outbox: &mut F, id: &Hash32, text: &[u8]) -> io::Result<F::Draft>
     ensures written { F.tells → IfOk result (λ file.
-        F.draft file ≡ durable (longer (empty_draft id.now) text.now)) }
+        F.draft file ≡ durable (with_more_text (empty_draft id.now) text.now)) }
     ensures none { F.tells → PutsNone (F.files outbox.old) (F.files outbox.new) }
 {
     let mut file = outbox.create(id)?;
@@ -68,7 +68,7 @@ fn expect_room<F: Outbox>(outbox: &mut F) -> io::Result<()>
 // Writes a file for one more transaction, with that text, all of which is on the disk then.
 fn write_more<F: Outbox>(outbox: &mut F, id: &Hash32, text: &[u8]) -> io::Result<F::Draft>
     ensures written { F.tells → IfOk result (λ file.
-        F.draft file ≡ durable (longer (empty_draft id.now) text.now)) }
+        F.draft file ≡ durable (with_more_text (empty_draft id.now) text.now)) }
     ensures none { F.tells → PutsNone (F.files outbox.old) (F.files outbox.new) }
 {
     expect_room(outbox)?;

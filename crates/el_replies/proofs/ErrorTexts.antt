@@ -10,7 +10,7 @@ use Rattle.el_calls.specs.Refusals.{code_of}
 use Rattle.el_calls.specs.declared.refusal.Refusal.{Refusal}
 use Rattle.el_calls.specs.declared.refusal.Refusal.TheVariants as refusal
 use Rattle.el_replies.specs.Envelopes.{reply_value}
-use Rattle.el_replies.specs.Batches.{Replies, added, noted, with_reply, is_closing}
+use Rattle.el_replies.specs.Batches.{Replies, reply_appended, noted, with_reply, is_closing}
 use Rattle.el_replies.specs.LineReplies.{message, message_to, reply_to, says}
 use Rattle.el_replies.specs.declared.line.LineReply.{LineReply}
 use Rattle.el_replies.specs.within.Errors.{error_start, error_text}
@@ -104,30 +104,30 @@ error_printed id refusal.RelayFailed = refl
 -- what is added to a batch, and the message, are those of the reply
 added_error : (id : Option Data) (room : Option (List ℕ)) (r : Refusal) (b c d : Replies)
     → room ≡ option_map compact_text id → c ≡ noted (Err r) b
-    → MatchOption room (d ≡ c) (λ i. d ≡ added (error_text i r) c) → d ≡ with_reply id (Err r) b
+    → MatchOption room (d ≡ c) (λ i. d ≡ reply_appended (error_text i r) c) → d ≡ with_reply id (Err r) b
 added_error None room r b c d is noted_is m = rw is at m ∙ noted_is
 added_error (Some id) room r b c d is noted_is m =
-    let put : d ≡ added (error_text (compact_text id) r) c = rw is at m in
-    put ∙ ap (λ (text : List ℕ). added text c) (error_printed id r)
-    ∙ ap (added (compact_text (reply_value id (Err r)))) noted_is
+    let put : d ≡ reply_appended (error_text (compact_text id) r) c = rw is at m in
+    put ∙ ap (λ (text : List ℕ). reply_appended text c) (error_printed id r)
+    ∙ ap (reply_appended (compact_text (reply_value id (Err r)))) noted_is
 
 pub with_error : (id : Option Data) (room : Option (List ℕ)) (answered : Result Data Refusal) (r : Refusal)
     (b c d : Replies) → answered ≡ Err r → room ≡ option_map compact_text id → c ≡ noted answered b
-    → MatchOption room (d ≡ c) (λ i. d ≡ added (error_text i r) c) → d ≡ with_reply id answered b
+    → MatchOption room (d ≡ c) (λ i. d ≡ reply_appended (error_text i r) c) → d ≡ with_reply id answered b
 with_error id room answered r b c d e is noted_is m =
     subst (λ (a : Result Data Refusal). d ≡ with_reply id a b) (sym e)
     (added_error id room r b c d is (subst (λ (a : Result Data Refusal). c ≡ noted a b) e noted_is) m)
 
 added_result : (id : Option Data) (found : Data) (b c d : Replies) → c ≡ noted (Ok found) b
-    → MatchOption id (d ≡ c) (λ i. d ≡ added (compact_text (reply_value i (Ok found))) c)
+    → MatchOption id (d ≡ c) (λ i. d ≡ reply_appended (compact_text (reply_value i (Ok found))) c)
     → d ≡ with_reply id (Ok found) b
 added_result None found b c d noted_is m = m ∙ noted_is
 added_result (Some id) found b c d noted_is m =
-    m ∙ ap (added (compact_text (reply_value id (Ok found)))) noted_is
+    m ∙ ap (reply_appended (compact_text (reply_value id (Ok found)))) noted_is
 
 pub with_result : {T E : Type 0} (result : Result T E) (id : Option Data) (answered : Result Data Refusal)
     (found : Data) (b c d : Replies) → answered ≡ Ok found → c ≡ noted answered b
-    → OnOk result (MatchOption id (d ≡ c) (λ i. d ≡ added (compact_text (reply_value i (Ok found))) c))
+    → OnOk result (MatchOption id (d ≡ c) (λ i. d ≡ reply_appended (compact_text (reply_value i (Ok found))) c))
     → OnOk result (d ≡ with_reply id answered b)
 with_result (Ok x) id answered found b c d e noted_is m =
     subst (λ (a : Result Data Refusal). d ≡ with_reply id a b) (sym e)

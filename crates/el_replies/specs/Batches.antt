@@ -24,8 +24,8 @@ pub record Replies : Type 0 where
 
 -- one text more, after a comma (44), or the bracket (91) if it is the first; its bytes count until the limit
 -- is passed
-abbrev pub added : List ℕ → Replies → Replies
-added text b = record {
+abbrev pub reply_appended : List ℕ → Replies → Replies
+reply_appended text b = record {
   text = b.text ++ (if b.any then 44 else 91) ∷ text;
   size = if nat_lt BATCH_LIMIT b.size then b.size else b.size + length text;
   any = true;
@@ -44,7 +44,7 @@ noted answered b = record b { closes = b.closes || is_closing answered }
 -- the reply to the request with that id; a notification gets none, but takes effect
 abbrev pub with_reply : Option Data → Result Data Refusal → Replies → Replies
 with_reply None answered b = noted answered b
-with_reply (Some id) answered b = added (compact_text (reply_value id answered)) (noted answered b)
+with_reply (Some id) answered b = reply_appended (compact_text (reply_value id answered)) (noted answered b)
 
 -- `answers` says how a request may be answered in a state, and which state comes of it.
 module _ {X : Type 0} (answers : X → Request → Session → Result Data Refusal → X → Session → Type 0) where

@@ -41,7 +41,8 @@ pub record IsBroadcast {Y : Type 0} (of_relay : relays.Ghosts Y) (was now : Y) (
     (bytes : List ℕ) (by : Result Hash32 OfferFault) : Type 0 where
   pub reason : HasReason desk bytes by
   pub next_is : next ≡ desk_after desk by
-  pub rose : RoseBy (of_relay.faults was) (of_relay.faults now) (failures relay (deeds_by bytes (said desk by)))
+  pub rose : RoseBy (of_relay.faults was) (of_relay.faults now)
+      (failures relay (deeds_by bytes (said desk by)))
   pub offered : Offered of_relay was now (deeds_by bytes (said desk by))
 
 -- The client is told so of what the desk answered, or no memory was found for that.

@@ -10,13 +10,13 @@ use Rattle.el_json.specs.declared.request.Envelope.TheVariants.{One, Batch}
 use Rattle.el_json.specs.declared.request.LineFault.{LineFault}
 use Rattle.el_calls.specs.Methods.{IsCalled}
 use Rattle.el_calls.specs.declared.call.Call.{Call}
-use Rattle.el_methods.specs.RowBounds.{rows_of}
+use Rattle.el_methods.specs.RowBounds.{rows_read_by}
 
 -- So many rows may be read for the request: none, or those of the call that it asks for. `buckets` is the
 -- number of buckets of the index.
 abbrev pub RequestReads : Chain → ℕ → Request → ℕ → Type 0
 RequestReads chain buckets r n =
-    (n ≡ 0) ⊎ ((c : Call) × IsCalled r.method r.params (Ok c) × (n ≡ rows_of chain buckets c))
+    (n ≡ 0) ⊎ ((c : Call) × IsCalled r.method r.params (Ok c) × (n ≡ rows_read_by chain buckets c))
 
 -- so many rows for an element of a batch
 abbrev pub ItemReads : Chain → ℕ → Item → ℕ → Type 0

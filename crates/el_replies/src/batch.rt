@@ -10,7 +10,7 @@ ghost use Rattle.el_side.specs.Side.{Side};
 ghost use Rattle.el_replies.specs.Envelopes.{reply_value};
 ghost use Rattle.el_replies.specs.Losses.{AnswersOf};
 ghost use Rattle.el_replies.specs.Spending.{Loses, asked_ghosts, asking};
-ghost use Rattle.el_replies.specs.Batches.{added, noted, with_reply, InTime, Step, Steps, CutAnswer, CutStep, CutSteps};
+ghost use Rattle.el_replies.specs.Batches.{reply_appended, noted, with_reply, InTime, Step, Steps, CutAnswer, CutStep, CutSteps};
 ghost use Rattle.el_replies.specs.within.Errors.{error_text};
 ghost use Rattle.el_replies.specs.within.Gathered.{replies_of, HasEnd, HasSpace};
 ghost use Rattle.el_json.specs.Lines.{HasPrintableId, IsPrintable, IsPrintableId};
@@ -52,7 +52,7 @@ pub(crate) struct Gathered {
 // Adds the text of a reply, for which there is room. Takes no memory.
 fn add(replies: &mut Gathered, text: &[u8])
     requires { length replies.old.text.items + (length text.now + 3) ≤ vec_capacity replies.old.text }
-    ensures added { replies_of replies.new ≡ added text.now (replies_of replies.old) }
+    ensures added { replies_of replies.new ≡ reply_appended text.now (replies_of replies.old) }
     ensures end { HasEnd replies.new }
 {
     if replies.any {
@@ -91,7 +91,7 @@ fn add_error(replies: &mut Gathered, room: Option<ErrorRoom>, refusal: Refusal)
     requires space { HasSpace room replies.old }
     requires end { HasEnd replies.old }
     ensures added { MatchOption room (replies_of replies.new ≡ replies_of replies.old)
-        (λ id. replies_of replies.new ≡ added (error_text id refusal) (replies_of replies.old)) }
+        (λ id. replies_of replies.new ≡ reply_appended (error_text id refusal) (replies_of replies.old)) }
     ensures end { HasEnd replies.new }
 {
     if let Some(room) = room {
@@ -112,7 +112,7 @@ fn add_result(
     requires end { HasEnd replies.old }
     ensures added { OnOk result (MatchOption id (replies_of replies.new ≡ replies_of replies.old)
         (λ i. replies_of replies.new
-        ≡ added (compact_text (reply_value i (Ok found))) (replies_of replies.old))) }
+        ≡ reply_appended (compact_text (reply_value i (Ok found))) (replies_of replies.old))) }
     ensures end { OnOk result (HasEnd replies.new) }
 {
     let Some(id) = id else {

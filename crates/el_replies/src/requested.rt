@@ -12,7 +12,7 @@ ghost use Rattle.el_replies.specs.Batches.{CutAnswer};
 ghost use Rattle.el_replies.specs.Losses.{AnswersOf};
 ghost use Rattle.el_replies.specs.Requested.{IsAnswered, told_of};
 ghost use Rattle.el_replies.specs.Spending.{Loses, asked_ghosts, asking};
-ghost use Rattle.el_methods.specs.RowBounds.{rows_of};
+ghost use Rattle.el_methods.specs.RowBounds.{rows_read_by};
 ghost use Rattle.el_methods.specs.Outcomes.{IsPrintableAnswer};
 ghost use Rattle.el_sessions.specs.Watching.{Follows};
 ghost use Rattle.el_chain.specs.Chains.{Chain};
@@ -65,7 +65,7 @@ fn answer_call<G: Ledger, A: Archive>(
     ensures watched { Follows session.old.subs session.new.subs watched.old watched.new }
     ensures printable { IfOk result IsPrintableAnswer }
     ensures rows { (chain : Chain) → G.stands ledger.old chain → CachesStand caches.old chain chain
-        → G.reads ledger.new ≤ G.reads ledger.old + rows_of chain (G.buckets ledger.old) call.now }
+        → G.reads ledger.new ≤ G.reads ledger.old + rows_read_by chain (G.buckets ledger.old) call.now }
     ensures caches { CachesStay ⟦<G as Ledger>⟧ ledger.old caches.old caches.new }
     ensures disk_more { G.faults ledger.old ≤ G.faults ledger.new }
     ensures archive_more { A.faults archive.old ≤ A.faults archive.new }

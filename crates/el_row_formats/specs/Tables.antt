@@ -23,12 +23,12 @@ index_of table.ScriptHeads = 6
 index_of table.Entries = 7
 
 -- the tables in a list of them
-abbrev pub tables_of : List (List (List ℕ)) → Tables
-tables_of list t = get_or list (index_of t) []
+abbrev pub tables_listed : List (List (List ℕ)) → Tables
+tables_listed list t = get_or list (index_of t) []
 
 -- the list of the eight tables, in the order of their places
-abbrev pub listed : Tables → List (List (List ℕ))
-listed tables = map tables
+abbrev pub list_of_tables : Tables → List (List (List ℕ))
+list_of_tables tables = map tables
     (table.Blocks ∷ table.Txs ∷ table.TxHeads ∷ table.Outs
     ∷ table.Ins ∷ table.Scripts ∷ table.ScriptHeads ∷ table.Entries ∷ [])
 

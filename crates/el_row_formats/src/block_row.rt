@@ -57,7 +57,8 @@ impl BlockRow {
         ensures written { old_block_row_bytes result ≡ bytes.now }
         ensures fits { FitsOldBlockRow result }
         // What stands so in format 1 is read.
-        ensures only { (r : shape.BlockRow) → FitsOldBlockRow r → old_block_row_bytes r ≡ bytes.now → r ≡ result }
+        ensures only { (r : shape.BlockRow) → FitsOldBlockRow r → old_block_row_bytes r ≡ bytes.now
+            → r ≡ result }
     {
         let (header, rest) = array::<80>(bytes);
         let (file, rest) = number(rest);

@@ -42,7 +42,8 @@ impl EntryRow {
         ensures written { old_entry_row_bytes result ≡ bytes.now }
         ensures fits { FitsOldEntryRow result }
         // What stands so in format 1 is read.
-        ensures only { (r : shape.EntryRow) → FitsOldEntryRow r → old_entry_row_bytes r ≡ bytes.now → r ≡ result }
+        ensures only { (r : shape.EntryRow) → FitsOldEntryRow r → old_entry_row_bytes r ≡ bytes.now
+            → r ≡ result }
     {
         let (tx, rest) = number(bytes);
         let (script, rest) = number(rest);

@@ -36,7 +36,8 @@ impl HeadRow {
         ensures written { old_head_row_bytes result ≡ bytes.now }
         ensures fits { FitsOldHeadRow result }
         // What stands so in format 1 is read.
-        ensures only { (r : shape.HeadRow) → FitsOldHeadRow r → old_head_row_bytes r ≡ bytes.now → r ≡ result }
+        ensures only { (r : shape.HeadRow) → FitsOldHeadRow r → old_head_row_bytes r ≡ bytes.now
+            → r ≡ result }
     {
         let (head, _) = old_link(bytes);
         HeadRow { head }

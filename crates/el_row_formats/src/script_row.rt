@@ -55,7 +55,8 @@ impl ScriptRow {
         ensures written { old_script_row_bytes result ≡ bytes.now }
         ensures fits { FitsOldScriptRow result }
         // What stands so in format 1 is read.
-        ensures only { (r : shape.ScriptRow) → FitsOldScriptRow r → old_script_row_bytes r ≡ bytes.now → r ≡ result }
+        ensures only { (r : shape.ScriptRow) → FitsOldScriptRow r → old_script_row_bytes r ≡ bytes.now
+            → r ≡ result }
     {
         let (script, rest) = hash(bytes);
         let (next, rest) = old_link(rest);

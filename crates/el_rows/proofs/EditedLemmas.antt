@@ -9,7 +9,7 @@ use Rattle.std.specs.BTreeMap.{is_at}
 use Rattle.el_row_formats.specs.declared.table.Table.{Table}
 use Rattle.el_row_formats.specs.declared.table.Table.TheVariants as table
 use Rattle.el_row_formats.specs.Tables.{row_cmp, index_of, size_of, limit_of, key}
-use Rattle.el_rows.specs.Changes.{Changes, Sets, Counts, changed_at, count_at}
+use Rattle.el_rows.specs.Changes.{Changes, Sets, SetsCount, changed_at, count_at}
 use Rattle.el_rows.specs.within.EditedTables.{EditedTable, edited_at, no_edits, edits_of, numbered, changes_in, all_changes, Writes, AreEdited}
 use Rattle.el_row_formats.proofs.Keys.{same_key, self_key, other_key, same_index, same_table}
 
@@ -201,7 +201,7 @@ module _ (base counts : List ℕ) (tables after : List EditedTable) (t : Table) 
   }
 
 -- the last rows go
-pub fewer_edited : (base counts less : List ℕ) (tables : List EditedTable) (t : Table) (n : ℕ) → AreEdited base counts tables → n ≤ count_at counts t → Counts counts less t n → AreEdited base less tables
+pub fewer_edited : (base counts less : List ℕ) (tables : List EditedTable) (t : Table) (n : ℕ) → AreEdited base counts tables → n ≤ count_at counts t → SetsCount counts less t n → AreEdited base less tables
 fewer_edited base counts less tables t n edited le counted =
     let fewer : (u : Table) → count_at less u ≤ count_at counts u = λ u. ⊎_elim
     (λ (e : u ≡ t). subst (λ (v : Table). count_at less v ≤ count_at counts v) (sym e) (omega (arith, counted.here)))

@@ -4,20 +4,20 @@ use Rattle.el_rows.specs.declared.open.Open.{Open}
 use Rattle.el_rows.specs.declared.rows.Rows as rows
 use Rattle.el_rows.specs.declared.edits.Layer as layer
 use Rattle.el_rows.specs.Changes.{Edited}
-use Rattle.el_rows.specs.Transaction.{tables_in, reads_in, OnlyReads, ReadsRows, EditsRows, EditsAlone}
+use Rattle.el_rows.specs.Transaction.{with_edits, reads_in, OnlyReadsRows, ReadsRows, EditsRows, EditsAlone}
 use Rattle.el_rows.proofs.ReadsLemmas.{read_joined, read_none, read_same}
 
 -- rows were read, and no call has failed so far
 pub record SoFar {R : Type 0} {G : rows.Ghosts R} {L : layer.Ghosts Edited} (old new : Open R Edited G L) : Type 0 where
-  pub tables : tables_in new ≡ tables_in old
-  pub only : OnlyReads old new
+  pub tables : with_edits new ≡ with_edits old
+  pub only : OnlyReadsRows old new
   pub borrow : new.rows.ghost_name ≡ old.rows.ghost_name
   pub rose : reads_in old ≤ reads_in new
   pub uncounted : G.faults new.rows.now ≡ G.faults old.rows.now
 
 -- rows were read and edits made, and no call has failed so far
 pub record EditedSoFar {R : Type 0} {G : rows.Ghosts R} {L : layer.Ghosts Edited} (old new : Open R Edited G L) : Type 0 where
-  pub only : OnlyReads old new
+  pub only : OnlyReadsRows old new
   pub borrow : new.rows.ghost_name ≡ old.rows.ghost_name
   pub rose : reads_in old ≤ reads_in new
   pub uncounted : G.faults new.rows.now ≡ G.faults old.rows.now

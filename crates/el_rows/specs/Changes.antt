@@ -55,7 +55,7 @@ pub record Sets (old new : Changes) (t : Table) (i : ℕ) (row : List ℕ) : Typ
       → changed_at new u j ≡ cond (is_at (row_cmp (key t i)) (key u j)) (Some row) (changed_at old u j)
 
 -- one count becomes n, the others stay
-pub record Counts (old new : List ℕ) (t : Table) (n : ℕ) : Type 0 where
+pub record SetsCount (old new : List ℕ) (t : Table) (n : ℕ) : Type 0 where
   pub here : count_at new t ≡ n
   pub others : (u : Table) → u ≢ t → count_at new u ≡ count_at old u
 

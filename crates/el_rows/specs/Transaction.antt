@@ -11,8 +11,9 @@ use Rattle.el_rows.specs.Changes.{Edited, under}
 use Rattle.el_rows.specs.Reads.{OnlyRead}
 
 -- the tables of the rows below, under the edits
-abbrev pub tables_in : {R : Type 0} {G : rows.Ghosts R} {L : layer.Ghosts Edited} → Open R Edited G L → Tables
-tables_in {R} {G} txn = under (G.lists txn.rows.now) txn.edits.counts txn.edits.changes
+abbrev pub with_edits : {R : Type 0} {G : rows.Ghosts R} {L : layer.Ghosts Edited} → Open R Edited G L
+    → Tables
+with_edits {R} {G} txn = under (G.lists txn.rows.now) txn.edits.counts txn.edits.changes
 
 -- rows were read and nothing else, over all that the store's type tells
 abbrev pub WasRead : {R : Type 0} → rows.Ghosts R → R → R → Type 0
@@ -21,9 +22,9 @@ WasRead G old new =
     (KeepsBelow G.tells_crash G.moment G.left_since G.beside) old new
 
 -- of the rows below, rows were read and nothing else
-abbrev pub OnlyReads : {R : Type 0} {G : rows.Ghosts R} {L : layer.Ghosts Edited}
+abbrev pub OnlyReadsRows : {R : Type 0} {G : rows.Ghosts R} {L : layer.Ghosts Edited}
     → Open R Edited G L → Open R Edited G L → Type 0
-OnlyReads {R} {G} old new = WasRead G old.rows.now new.rows.now
+OnlyReadsRows {R} {G} old new = WasRead G old.rows.now new.rows.now
 
 -- how many rows were read of the rows below
 abbrev pub reads_in : {R : Type 0} {G : rows.Ghosts R} {L : layer.Ghosts Edited} → Open R Edited G L → ℕ
@@ -37,8 +38,8 @@ disk_failed = record {}
 -- the device is counted, and nothing else is.
 pub record ReadsRows {R T E : Type 0} {G : rows.Ghosts R} {L : layer.Ghosts Edited} (failure : E)
     (old new : Open R Edited G L) (result : Result T E) : Type 0 where
-  pub tables : tables_in new ≡ tables_in old
-  pub only : OnlyReads old new
+  pub tables : with_edits new ≡ with_edits old
+  pub only : OnlyReadsRows old new
   pub borrow : new.rows.ghost_name ≡ old.rows.ghost_name
   pub rose : reads_in old ≤ reads_in new
   pub cause : CountsOnly (G.faults old.rows.now) (G.faults new.rows.now) failure result
@@ -46,7 +47,7 @@ pub record ReadsRows {R T E : Type 0} {G : rows.Ghosts R} {L : layer.Ghosts Edit
 -- A call read rows and made edits, and wrote nothing to the rows below: as above, but for the tables.
 pub record EditsRows {R T E : Type 0} {G : rows.Ghosts R} {L : layer.Ghosts Edited} (failure : E)
     (old new : Open R Edited G L) (result : Result T E) : Type 0 where
-  pub only : OnlyReads old new
+  pub only : OnlyReadsRows old new
   pub borrow : new.rows.ghost_name ≡ old.rows.ghost_name
   pub rose : reads_in old ≤ reads_in new
   pub cause : CountsOnly (G.faults old.rows.now) (G.faults new.rows.now) failure result

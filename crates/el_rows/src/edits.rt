@@ -3,7 +3,7 @@ ghost use Rattle.std.specs.Prelude.{◌≡◌, ◌≢◌, ◌<◌, ◌≤◌, �
 ghost use Rattle.std.specs.List.{list_any};
 ghost use Rattle.std.specs.List.Sorted.{IsStrictlyIncreasing};
 ghost use Rattle.el_row_formats.specs.Tables.{number_of, size_of, limit_of, row_at};
-ghost use Rattle.el_rows.specs.Changes.{count_at, changed_at, Sets, Counts, shown_at, IsMadeFrom};
+ghost use Rattle.el_rows.specs.Changes.{count_at, changed_at, Sets, SetsCount, shown_at, IsMadeFrom};
 ghost use Rattle.el_rows.specs.within.EditedTables.{edits_of, rows_at, Writes};
 
 use crate::late_edits::LateEdits;
@@ -130,7 +130,7 @@ impl Edits {
         ensures number { IfOk result (λ i. i ≡ count_at self.old.counts t) }
         ensures below { IfOk result (λ i. i < limit_of t) }
         ensures set { IfOk result (λ i. Sets self.old.changes self.new.changes t i row.now) }
-        ensures counts { IfOk result (λ i. Counts self.old.counts self.new.counts t (i + 1)) }
+        ensures counts { IfOk result (λ i. SetsCount self.old.counts self.new.counts t (i + 1)) }
         ensures err { OnErr result (self.new ≡ self.old) }
         ensures base { self.new.base ≡ self.old.base }
         ensures full { count_at self.old.counts t ≡ limit_of t
@@ -152,7 +152,7 @@ impl Edits {
     /// Leaves the first n rows.
     pub(crate) fn shrink(&mut self, t: Table, n: u64)
         requires { n ≤ count_at self.old.counts t }
-        ensures counts { Counts self.old.counts self.new.counts t n }
+        ensures counts { SetsCount self.old.counts self.new.counts t n }
         ensures base { self.new.base ≡ self.old.base }
         ensures changes { self.new.changes ≡ self.old.changes }
     {

@@ -39,6 +39,7 @@ pub fn heads_are_there()
 /// Where all tables but those of heads are empty, and each head leads to nothing, the rows stand for no
 /// blocks.
 pub fn first_rows_stand()
-    ensures { (bits : ℕ) (rows : Tables) → ((t : Table) → rows t ≡ replicate (first_count bits t) (link_bytes None))
+    ensures { (bits : ℕ) (rows : Tables)
+        → ((t : Table) → rows t ≡ replicate (first_count bits t) (link_bytes None))
         → StandWith (2 ^ bits) rows [] }
 {}

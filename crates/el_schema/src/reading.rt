@@ -1,7 +1,7 @@
 // Rows by their numbers.
 ghost use Rattle.std.specs.Prelude.{◌≡◌, ◌<◌, ◌≤◌, ◌+◌, [], length, get_or, IfOk, Some, option_map, slice_get};
 ghost use Rattle.el_row_formats.specs.RowBytes.{block_row_bytes, tx_row_bytes, out_row_bytes, in_row_bytes, script_row_bytes, entry_row_bytes, FitsBlockRow, FitsTxRow, FitsOutRow, FitsInRow, FitsScriptRow, FitsEntryRow, ReadsAsOut};
-ghost use Rattle.el_rows.specs.Transaction.{tables_in, reads_in, disk_failed, ReadsRows};
+ghost use Rattle.el_rows.specs.Transaction.{with_edits, reads_in, disk_failed, ReadsRows};
 ghost use Rattle.el_row_formats.specs.declared.block_row.BlockRow as block_shape;
 ghost use Rattle.el_row_formats.specs.declared.tx_row.TxRow as tx_shape;
 ghost use Rattle.el_row_formats.specs.declared.out_row.OutRow as out_shape;
@@ -19,12 +19,12 @@ use el_rows::{Rows, Txn};
 /// The row of the block of that height, which is there. It takes no memory and changes nothing.
 pub fn block_row<R: Rows>(t: &mut Txn<'_, R>, h: u64) -> Result<BlockRow, DiskFailed>
     requires live { R.is_live t.old.rows.now }
-    requires below { h < length (tables_in t.old Table.Blocks) }
-    ensures row { (tb : typed.Tables) → R.tells → Encode (tables_in t.old) tb
+    requires below { h < length (with_edits t.old Table.Blocks) }
+    ensures row { (tb : typed.Tables) → R.tells → Encode (with_edits t.old) tb
         → IfOk result (λ r. Some r ≡ option_map block_fields (slice_get tb.blocks h)) }
     // What follows holds over any rows: no other row that fits has these bytes.
     ensures only { R.tells → IfOk result (λ r. (x : block_shape.BlockRow) → FitsBlockRow x
-        → block_row_bytes x ≡ get_or (tables_in t.old Table.Blocks) h [] → x ≡ r) }
+        → block_row_bytes x ≡ get_or (with_edits t.old Table.Blocks) h [] → x ≡ r) }
     ensures fits { IfOk result (λ r. FitsBlockRow r) }
     ensures read { ReadsRows disk_failed t.old t.new result }
     ensures rows { reads_in t.new ≤ reads_in t.old + 1 }
@@ -37,12 +37,12 @@ pub fn block_row<R: Rows>(t: &mut Txn<'_, R>, h: u64) -> Result<BlockRow, DiskFa
 /// The row of the transaction of that number, which is there. It takes no memory and changes nothing.
 pub fn tx_row<R: Rows>(t: &mut Txn<'_, R>, n: u64) -> Result<TxRow, DiskFailed>
     requires live { R.is_live t.old.rows.now }
-    requires below { n < length (tables_in t.old Table.Txs) }
-    ensures row { (tb : typed.Tables) → R.tells → Encode (tables_in t.old) tb
+    requires below { n < length (with_edits t.old Table.Txs) }
+    ensures row { (tb : typed.Tables) → R.tells → Encode (with_edits t.old) tb
         → IfOk result (λ r. Some r ≡ option_map tx_fields (slice_get tb.txs n)) }
     // What follows holds over any rows: no other row that fits has these bytes.
     ensures only { R.tells → IfOk result (λ r. (x : tx_shape.TxRow) → FitsTxRow x
-        → tx_row_bytes x ≡ get_or (tables_in t.old Table.Txs) n [] → x ≡ r) }
+        → tx_row_bytes x ≡ get_or (with_edits t.old Table.Txs) n [] → x ≡ r) }
     ensures fits { IfOk result (λ r. FitsTxRow r) }
     ensures read { ReadsRows disk_failed t.old t.new result }
     ensures rows { reads_in t.new ≤ reads_in t.old + 1 }
@@ -55,14 +55,14 @@ pub fn tx_row<R: Rows>(t: &mut Txn<'_, R>, n: u64) -> Result<TxRow, DiskFailed>
 /// The row of the output of that number, which is there. It takes no memory and changes nothing.
 pub fn out_row<R: Rows>(t: &mut Txn<'_, R>, n: u64) -> Result<OutRow, DiskFailed>
     requires live { R.is_live t.old.rows.now }
-    requires below { n < length (tables_in t.old Table.Outs) }
-    ensures row { (tb : typed.Tables) → R.tells → Encode (tables_in t.old) tb
+    requires below { n < length (with_edits t.old Table.Outs) }
+    ensures row { (tb : typed.Tables) → R.tells → Encode (with_edits t.old) tb
         → IfOk result (λ r. Some r ≡ option_map out_fields (slice_get tb.outs n)) }
     // What follows holds over any rows: no other row that fits has these bytes.
     ensures only { R.tells → IfOk result (λ r. (x : out_shape.OutRow) → FitsOutRow x
-        → out_row_bytes x ≡ get_or (tables_in t.old Table.Outs) n [] → x ≡ r) }
+        → out_row_bytes x ≡ get_or (with_edits t.old Table.Outs) n [] → x ≡ r) }
     // A state above 2 reads as buried.
-    ensures bytes { R.tells → IfOk result (λ r. ReadsAsOut (get_or (tables_in t.old Table.Outs) n []) r) }
+    ensures bytes { R.tells → IfOk result (λ r. ReadsAsOut (get_or (with_edits t.old Table.Outs) n []) r) }
     ensures fits { IfOk result (λ r. FitsOutRow r) }
     ensures read { ReadsRows disk_failed t.old t.new result }
     ensures rows { reads_in t.new ≤ reads_in t.old + 1 }
@@ -75,12 +75,12 @@ pub fn out_row<R: Rows>(t: &mut Txn<'_, R>, n: u64) -> Result<OutRow, DiskFailed
 /// The row of the input of that number, which is there. It takes no memory and changes nothing.
 pub fn in_row<R: Rows>(t: &mut Txn<'_, R>, n: u64) -> Result<InRow, DiskFailed>
     requires live { R.is_live t.old.rows.now }
-    requires below { n < length (tables_in t.old Table.Ins) }
-    ensures row { (tb : typed.Tables) → R.tells → Encode (tables_in t.old) tb
+    requires below { n < length (with_edits t.old Table.Ins) }
+    ensures row { (tb : typed.Tables) → R.tells → Encode (with_edits t.old) tb
         → IfOk result (λ r. Some r ≡ option_map in_fields (slice_get tb.ins n)) }
     // What follows holds over any rows: no other row that fits has these bytes.
     ensures only { R.tells → IfOk result (λ r. (x : in_shape.InRow) → FitsInRow x
-        → in_row_bytes x ≡ get_or (tables_in t.old Table.Ins) n [] → x ≡ r) }
+        → in_row_bytes x ≡ get_or (with_edits t.old Table.Ins) n [] → x ≡ r) }
     ensures fits { IfOk result (λ r. FitsInRow r) }
     ensures read { ReadsRows disk_failed t.old t.new result }
     ensures rows { reads_in t.new ≤ reads_in t.old + 1 }
@@ -93,12 +93,12 @@ pub fn in_row<R: Rows>(t: &mut Txn<'_, R>, n: u64) -> Result<InRow, DiskFailed>
 /// The row of the script hash of that number, which is there. It takes no memory and changes nothing.
 pub fn script_row<R: Rows>(t: &mut Txn<'_, R>, n: u64) -> Result<ScriptRow, DiskFailed>
     requires live { R.is_live t.old.rows.now }
-    requires below { n < length (tables_in t.old Table.Scripts) }
-    ensures row { (tb : typed.Tables) → R.tells → Encode (tables_in t.old) tb
+    requires below { n < length (with_edits t.old Table.Scripts) }
+    ensures row { (tb : typed.Tables) → R.tells → Encode (with_edits t.old) tb
         → IfOk result (λ r. Some r ≡ option_map script_fields (slice_get tb.scripts n)) }
     // What follows holds over any rows: no other row that fits has these bytes.
     ensures only { R.tells → IfOk result (λ r. (x : script_shape.ScriptRow) → FitsScriptRow x
-        → script_row_bytes x ≡ get_or (tables_in t.old Table.Scripts) n [] → x ≡ r) }
+        → script_row_bytes x ≡ get_or (with_edits t.old Table.Scripts) n [] → x ≡ r) }
     ensures fits { IfOk result (λ r. FitsScriptRow r) }
     ensures read { ReadsRows disk_failed t.old t.new result }
     ensures rows { reads_in t.new ≤ reads_in t.old + 1 }
@@ -111,12 +111,12 @@ pub fn script_row<R: Rows>(t: &mut Txn<'_, R>, n: u64) -> Result<ScriptRow, Disk
 /// The row of the entry of that number, which is there. It takes no memory and changes nothing.
 pub fn entry_row<R: Rows>(t: &mut Txn<'_, R>, n: u64) -> Result<EntryRow, DiskFailed>
     requires live { R.is_live t.old.rows.now }
-    requires below { n < length (tables_in t.old Table.Entries) }
-    ensures row { (tb : typed.Tables) → R.tells → Encode (tables_in t.old) tb
+    requires below { n < length (with_edits t.old Table.Entries) }
+    ensures row { (tb : typed.Tables) → R.tells → Encode (with_edits t.old) tb
         → IfOk result (λ r. Some r ≡ option_map entry_fields (slice_get tb.entries n)) }
     // What follows holds over any rows: no other row that fits has these bytes.
     ensures only { R.tells → IfOk result (λ r. (x : entry_shape.EntryRow) → FitsEntryRow x
-        → entry_row_bytes x ≡ get_or (tables_in t.old Table.Entries) n [] → x ≡ r) }
+        → entry_row_bytes x ≡ get_or (with_edits t.old Table.Entries) n [] → x ≡ r) }
     ensures fits { IfOk result (λ r. FitsEntryRow r) }
     ensures read { ReadsRows disk_failed t.old t.new result }
     ensures rows { reads_in t.new ≤ reads_in t.old + 1 }

@@ -6,7 +6,7 @@ use Rattle.el_base.specs.declared.hash.Hash32.{Hash32}
 use Rattle.el_chain.specs.Chains.{zero_hash}
 use Rattle.el_chain.specs.Faults.{full}
 use Rattle.el_chain.specs.Headers.{same_hash}
-use Rattle.el_chain.specs.RowCounts.{row_limit, has_script}
+use Rattle.el_chain.specs.RowCounts.{row_limit, is_script_among}
 use Rattle.el_chain.specs.declared.fault.ConnectFault.{ConnectFault}
 use Rattle.el_chain.specs.declared.fault.ConnectFault.TheVariants as connect
 use Rattle.el_tables.specs.ChainLists.{ListedBlock}
@@ -29,10 +29,10 @@ use Rattle.el_script.proofs.ScriptSteps.{many_scripts, many_entries}
 -- 1. Numbers
 
 -- the script hash of a number is there
-pub hash_there : (n : ℕ) (ss : List Hash32) → n < length ss → has_script (get_or ss n zero_hash) ss ≡ true
+pub hash_there : (n : ℕ) (ss : List Hash32) → n < length ss → is_script_among (get_or ss n zero_hash) ss ≡ true
 hash_there n [] lt = absurd (omega arith)
-hash_there zero (s ∷ ss) lt = or_left (same_hash s s) (has_script s ss) (hash_from s s refl)
-hash_there (suc n) (s ∷ ss) lt = or_right (same_hash s (get_or ss n zero_hash)) (has_script (get_or ss n zero_hash) ss) (hash_there n ss (omega arith))
+hash_there zero (s ∷ ss) lt = or_left (same_hash s s) (is_script_among s ss) (hash_from s s refl)
+hash_there (suc n) (s ∷ ss) lt = or_right (same_hash s (get_or ss n zero_hash)) (is_script_among (get_or ss n zero_hash) ss) (hash_there n ss (omega arith))
 
 -- and has that number where each stands once
 pub hash_number : (n : ℕ) (ss : List Hash32) → Once ss → n < length ss → n ≡ script_number (get_or ss n zero_hash) ss
@@ -40,23 +40,23 @@ hash_number n [] once lt = absurd (omega arith)
 hash_number zero (s ∷ ss) once lt = let same = hash_from s s refl in rw same refl
 hash_number (suc n) (s ∷ ss) once lt = elim (cases_Bool (same_hash s (get_or ss n zero_hash))) [
   | inl same ↦
-      let here : has_script s ss ≡ true = ap (λ (t : Hash32). has_script t ss) (hash_gives s (get_or ss n zero_hash) same) ∙ hash_there n ss (omega arith) in
+      let here : is_script_among s ss ≡ true = ap (λ (t : Hash32). is_script_among t ss) (hash_gives s (get_or ss n zero_hash) same) ∙ hash_there n ss (omega arith) in
       let twice : true ≡ false = sym here ∙ once.0 in
       absurd cc
   | inr apart ↦ let rest = hash_number n ss once.1 (omega arith) in rw apart (ap suc rest)
 ]
 
 -- there is no newest where the script isn't there
-pub newest_none : (s : Hash32) (ss : List Hash32) → Once ss → newest_of s ss ≡ None → has_script s ss ≡ false
-newest_none s ss once none = by (has_script s ss) (sym (script_found s ss once) ∙ none)
+pub newest_none : (s : Hash32) (ss : List Hash32) → Once ss → newest_of s ss ≡ None → is_script_among s ss ≡ false
+newest_none s ss once none = by (is_script_among s ss) (sym (script_found s ss once) ∙ none)
   where
     by : (b : Bool) → Rattle.std.proofs.Common.cond b (Some (script_number s ss)) None ≡ None → b ≡ false
     by true is = cc
     by false is = refl
 
 -- and else it has the script's number
-pub newest_some : (s : Hash32) (ss : List Hash32) (n : ℕ) → Once ss → newest_of s ss ≡ Some n → (has_script s ss ≡ true) × (n ≡ script_number s ss)
-newest_some s ss n once some = by (has_script s ss) (sym (script_found s ss once) ∙ some)
+pub newest_some : (s : Hash32) (ss : List Hash32) (n : ℕ) → Once ss → newest_of s ss ≡ Some n → (is_script_among s ss ≡ true) × (n ≡ script_number s ss)
+newest_some s ss n once some = by (is_script_among s ss) (sym (script_found s ss once) ∙ some)
   where
     by : (b : Bool) → Rattle.std.proofs.Common.cond b (Some (script_number s ss)) None ≡ Some n → (b ≡ true) × (n ≡ script_number s ss)
     by true is = (refl, cc)
@@ -92,7 +92,7 @@ room_left counts bs s tx l new hold a b =
     ap₂ (λ (x y : Option ConnectFault). option_or x y) (full_none 6 (length m.scripts) (omega arith)) (full_none 8 (length m.entries) (omega arith))
 
 -- nor was one where a script that is there has an entry more
-pub room_known : (counts : HeadCounts) (bs : List ListedBlock) (s : Hash32) (tx : ℕ) (l : Lists) (old : held.Tables) → Hold counts bs l old → has_script s l.scripts ≡ true
+pub room_known : (counts : HeadCounts) (bs : List ListedBlock) (s : Hash32) (tx : ℕ) (l : Lists) (old : held.Tables) → Hold counts bs l old → is_script_among s l.scripts ≡ true
     → length (old table.Scripts) ≤ limit_of table.Scripts → length (old table.Entries) < limit_of table.Entries → touch_full s tx l ≡ None
 room_known counts bs s tx l old hold known few room =
     let c = many_scripts counts bs l old hold in
@@ -110,7 +110,7 @@ room_known counts bs s tx l old hold known few room =
 
 -- a script that isn't there, or its first entry, has no place
 pub full_new : (counts : HeadCounts) (bs : List ListedBlock) (s : Hash32) (tx : ℕ) (l : Lists) (old : held.Tables) (e : ConnectFault) (t rows : ℕ) → Hold counts bs l old
-    → Fits l → has_script s l.scripts ≡ false → IsScriptFault old e → e ≡ connect.Full t rows → touch_full s tx l ≡ Some (connect.Full t rows)
+    → Fits l → is_script_among s l.scripts ≡ false → IsScriptFault old e → e ≡ connect.Full t rows → touch_full s tx l ≡ Some (connect.Full t rows)
 full_new counts bs s tx l old e t rows hold fits fresh fault is =
     let c = many_scripts counts bs l old hold in
     let d = many_entries counts bs l old hold in
@@ -138,7 +138,7 @@ full_new counts bs s tx l old e t rows hold fits fresh fault is =
 
 -- another entry of a script that is there has no place
 pub full_known : (counts : HeadCounts) (bs : List ListedBlock) (s : Hash32) (n tx : ℕ) (l : Lists) (old : held.Tables) (e : ConnectFault) (t rows : ℕ) → Hold counts bs l old
-    → has_script s l.scripts ≡ true → n ≡ script_number s l.scripts → is_tx tx (last_tx_of n l.entries) ≡ false → length (old table.Scripts) ≤ limit_of table.Scripts
+    → is_script_among s l.scripts ≡ true → n ≡ script_number s l.scripts → is_tx tx (last_tx_of n l.entries) ≡ false → length (old table.Scripts) ≤ limit_of table.Scripts
     → IsEntryFault old e → e ≡ connect.Full t rows → touch_full s tx l ≡ Some (connect.Full t rows)
 full_known counts bs s n tx l old e t rows hold known n_is fresh few fault is =
     let c = many_scripts counts bs l old hold in

@@ -5,7 +5,7 @@ use Rattle.std.proofs.lemmas.Bool.{cases_lt, cases_eq}
 use Rattle.std.proofs.lemmas.List.{length-map, map-append, map-set, take-map, get_or-map, length-take-le}
 use Rattle.el_base.specs.declared.hash.Hash32.{Hash32}
 use Rattle.el_chain.specs.Chains.{zero_hash}
-use Rattle.el_chain.specs.RowCounts.{has_script}
+use Rattle.el_chain.specs.RowCounts.{is_script_among}
 use Rattle.el_tables.specs.ChainLists.{ListedBlock}
 use Rattle.el_tables.specs.Disconnecting.{but_last, last, take_back_entry, without_entry}
 use Rattle.el_tables.specs.Fits.{Fits, IsNumbered}
@@ -221,7 +221,7 @@ module _ (counts : HeadCounts) (bs : List ListedBlock) (l : Lists) (old : held.T
         (is ∙ ap (λ (n : ℕ). set (old table.ScriptHeads) (bucket_in n s) (link_bytes link)) long)
 
     -- a script more
-    pub script_grows : (s : Hash32) (next : Option ℕ) (tx : ℕ) → Fits l → 0 < counts.scripts → has_script s l.scripts ≡ false
+    pub script_grows : (s : Hash32) (next : Option ℕ) (tx : ℕ) → Fits l → 0 < counts.scripts → is_script_among s l.scripts ≡ false
         → ScriptMore s next tx old new → next ≡ bucket_head counts.scripts s l.scripts → Hold counts bs (add_entry s tx l) new
     script_grows s next tx fits some fresh more next_is =
         let head : next ≡ edit.head_of s T.script_heads = next_is ∙ sym (head_is counts.scripts (λ (h : Hash32). h) l.scripts s some) in
@@ -240,7 +240,7 @@ module _ (counts : HeadCounts) (bs : List ListedBlock) (l : Lists) (old : held.T
         (all_more (λ e. FitsEntryRow (entry_fields e)) T.entries entry hold.fit.entries (subst FitsEntryRow entry_same more.entry_fits))
 
     -- an entry more of a script that is there
-    pub entry_grows : (s : Hash32) (n : ℕ) (row : ScriptRow) (before : Option ℕ) (tx : ℕ) → has_script s l.scripts ≡ true → n ≡ script_number s l.scripts
+    pub entry_grows : (s : Hash32) (n : ℕ) (row : ScriptRow) (before : Option ℕ) (tx : ℕ) → is_script_among s l.scripts ≡ true → n ≡ script_number s l.scripts
         → is_tx tx (last_tx_of n l.entries) ≡ false → ((q : ScriptRow) → FitsScriptRow q → script_row_bytes q ≡ get_or (old table.Scripts) n [] → q ≡ row)
         → before ≡ greatest (is_of_script n) l.entries → EntryMore n row before tx old new → Hold counts bs (add_entry s tx l) new
     entry_grows s n row before tx known n_is fresh only before_is more =

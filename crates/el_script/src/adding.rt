@@ -2,7 +2,7 @@
 ghost use Rattle.std.specs.Prelude.{◌≡◌, ◌<◌, ◌≤◌, ◌+◌, ◌⊎◌, ℕ, length, OnOk, IfErr};
 ghost use Rattle.el_row_formats.specs.RowBytes.{number_limit, link_number, FitsScriptRow};
 ghost use Rattle.el_row_formats.specs.Tables.{limit_of, number_of};
-ghost use Rattle.el_rows.specs.Transaction.{tables_in, EditsAlone};
+ghost use Rattle.el_rows.specs.Transaction.{with_edits, EditsAlone};
 ghost use Rattle.el_row_formats.specs.declared.table.Table.{Table};
 ghost use Rattle.el_script.specs.within.RowSteps.{ScriptMore, EntryMore, ThreeStay, IsEntryFault, IsScriptFault};
 
@@ -32,9 +32,9 @@ pub(crate) fn add_script<R: Rows>(
 ) -> Result<(), ConnectFault>
     requires tx { tx < number_limit }
     requires next { link_number next < number_limit }
-    ensures added { OnOk result (ScriptMore s.now next tx (tables_in t.old) (tables_in t.new)) }
-    ensures others { ThreeStay (tables_in t.old) (tables_in t.new) }
-    ensures fault { IfErr result (λ e. IsScriptFault (tables_in t.old) e) }
+    ensures added { OnOk result (ScriptMore s.now next tx (with_edits t.old) (with_edits t.new)) }
+    ensures others { ThreeStay (with_edits t.old) (with_edits t.new) }
+    ensures fault { IfErr result (λ e. IsScriptFault (with_edits t.old) e) }
     ensures alone { EditsAlone t.old t.new }
 {
     let script = t.count(Table::Scripts);
@@ -69,14 +69,14 @@ pub(crate) fn add_known<R: Rows>(
     before: Option<u64>,
     tx: u64,
 ) -> Result<(), ConnectFault>
-    requires below { script < length (tables_in t.old Table.Scripts) }
+    requires below { script < length (with_edits t.old Table.Scripts) }
     requires few { script < number_limit }
     requires fits { FitsScriptRow row.now }
     requires before { link_number before < number_limit }
     requires tx { tx < number_limit }
-    ensures added { OnOk result (EntryMore script row.now before tx (tables_in t.old) (tables_in t.new)) }
-    ensures others { ThreeStay (tables_in t.old) (tables_in t.new) }
-    ensures fault { IfErr result (λ e. IsEntryFault (tables_in t.old) e) }
+    ensures added { OnOk result (EntryMore script row.now before tx (with_edits t.old) (with_edits t.new)) }
+    ensures others { ThreeStay (with_edits t.old) (with_edits t.new) }
+    ensures fault { IfErr result (λ e. IsEntryFault (with_edits t.old) e) }
     ensures alone { EditsAlone t.old t.new }
 {
     let last = append_entry(t, &EntryRow { tx, script, before })?;

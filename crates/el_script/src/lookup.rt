@@ -2,7 +2,7 @@
 ghost use Rattle.std.specs.Prelude.{◌≡◌, ◌<◌, ◌≤◌, ◌+◌, ℕ, List, length, IfOk, None};
 ghost use Rattle.std.specs.Option.{ForSome};
 ghost use Rattle.el_row_formats.specs.declared.table.Table.{Table};
-ghost use Rattle.el_rows.specs.Transaction.{tables_in, reads_in, disk_failed, ReadsRows};
+ghost use Rattle.el_rows.specs.Transaction.{with_edits, reads_in, disk_failed, ReadsRows};
 ghost use Rattle.el_tables.specs.ChainLists.{ListedBlock};
 ghost use Rattle.el_tables.specs.Lists.{Lists};
 ghost use Rattle.el_tables.specs.Tables.{HeadCounts};
@@ -21,15 +21,15 @@ use el_rows::{Rows, Txn};
 pub fn find_script<R: Rows>(t: &mut Txn<'_, R>, s: &Hash32) -> Result<Option<u64>, DiskFailed>
     requires live { R.is_live t.old.rows.now }
     ensures newest { (counts : HeadCounts) (bs : List ListedBlock) (l : Lists) → R.tells
-        → Hold counts bs l (tables_in t.old) → 0 < counts.scripts
+        → Hold counts bs l (with_edits t.old) → 0 < counts.scripts
         → IfOk result (λ n. n ≡ newest_of s.now l.scripts) }
     // It reads one head, and rows of scripts in the hash's bucket alone.
     ensures rows { (counts : HeadCounts) (bs : List ListedBlock) (l : Lists) → R.tells
-        → Hold counts bs l (tables_in t.old) → 0 < counts.scripts
+        → Hold counts bs l (with_edits t.old) → 0 < counts.scripts
         → reads_in t.new ≤ reads_in t.old + 1 + bucket_size counts.scripts s.now l.scripts }
     // What follows holds over any rows.
-    ensures none { length (tables_in t.old Table.ScriptHeads) ≡ 0 → IfOk result (λ n. n ≡ None) }
-    ensures below { IfOk result (λ n. ForSome n (λ k. k < length (tables_in t.old Table.Scripts))) }
+    ensures none { length (with_edits t.old Table.ScriptHeads) ≡ 0 → IfOk result (λ n. n ≡ None) }
+    ensures below { IfOk result (λ n. ForSome n (λ k. k < length (with_edits t.old Table.Scripts))) }
     ensures read { ReadsRows disk_failed t.old t.new result }
 {
     Ok(find(t, Buckets::ScriptHashes, s)?.newest)
@@ -52,11 +52,11 @@ pub fn found_script<R: Rows>(
 ) -> Result<Option<FoundScript>, DiskFailed>
     requires live { R.is_live t.old.rows.now }
     ensures found { (counts : HeadCounts) (bs : List ListedBlock) (l : Lists) → R.tells
-        → Hold counts bs l (tables_in t.old) → HasHeads counts l
+        → Hold counts bs l (with_edits t.old) → HasHeads counts l
         → IfOk result (λ f. f ≡ script_in script_hash.now counts l) }
     // It reads one head, and rows of scripts in the hash's bucket alone, each once.
     ensures rows { (counts : HeadCounts) (bs : List ListedBlock) (l : Lists) → R.tells
-        → Hold counts bs l (tables_in t.old) → HasHeads counts l
+        → Hold counts bs l (with_edits t.old) → HasHeads counts l
         → reads_in t.new ≤ reads_in t.old + 1 + bucket_size counts.scripts script_hash.now l.scripts }
     ensures read { ReadsRows disk_failed t.old t.new result }
 {

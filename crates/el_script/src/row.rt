@@ -4,7 +4,7 @@ ghost use Rattle.el_buckets.specs.Faults.{NotAdded};
 ghost use Rattle.el_rows.specs.Changes.{OnTable};
 ghost use Rattle.el_row_formats.specs.RowBytes.{script_row_bytes, entry_row_bytes, FitsScriptRow, FitsEntryRow};
 ghost use Rattle.el_row_formats.specs.Tables.{limit_of};
-ghost use Rattle.el_rows.specs.Transaction.{tables_in, EditsAlone};
+ghost use Rattle.el_rows.specs.Transaction.{with_edits, EditsAlone};
 ghost use Rattle.el_row_formats.specs.declared.table.Table.{Table};
 
 use el_base::OutOfMemory;
@@ -19,11 +19,11 @@ pub(crate) fn put_script<R: Rows>(
     n: u64,
     row: &ScriptRow,
 ) -> Result<(), OutOfMemory>
-    requires below { n < length (tables_in t.old Table.Scripts) }
+    requires below { n < length (with_edits t.old Table.Scripts) }
     requires fits { FitsScriptRow row.now }
-    ensures ok { OnOk result (OnTable (tables_in t.old) (tables_in t.new) Table.Scripts
-        (slice_set (tables_in t.old Table.Scripts) n (script_row_bytes row.now))) }
-    ensures err { OnErr result (tables_in t.new ≡ tables_in t.old) }
+    ensures ok { OnOk result (OnTable (with_edits t.old) (with_edits t.new) Table.Scripts
+        (slice_set (with_edits t.old Table.Scripts) n (script_row_bytes row.now))) }
+    ensures err { OnErr result (with_edits t.new ≡ with_edits t.old) }
     ensures alone { EditsAlone t.old t.new }
 {
     let mut bytes = [0; 64];
@@ -37,12 +37,12 @@ pub(crate) fn append_entry<R: Rows>(
     entry: &EntryRow,
 ) -> Result<u64, ConnectFault>
     requires fits { FitsEntryRow entry.now }
-    ensures number { IfOk result (λ n. n ≡ length (tables_in t.old Table.Entries)) }
-    ensures ok { OnOk result (OnTable (tables_in t.old) (tables_in t.new) Table.Entries
-        (tables_in t.old Table.Entries ++ entry_row_bytes entry.now ∷ [])) }
-    ensures err { OnErr result (tables_in t.new ≡ tables_in t.old) }
-    ensures room { OnOk result (length (tables_in t.old Table.Entries) < limit_of Table.Entries) }
-    ensures fault { IfErr result (NotAdded Table.Entries (length (tables_in t.old Table.Entries))) }
+    ensures number { IfOk result (λ n. n ≡ length (with_edits t.old Table.Entries)) }
+    ensures ok { OnOk result (OnTable (with_edits t.old) (with_edits t.new) Table.Entries
+        (with_edits t.old Table.Entries ++ entry_row_bytes entry.now ∷ [])) }
+    ensures err { OnErr result (with_edits t.new ≡ with_edits t.old) }
+    ensures room { OnOk result (length (with_edits t.old Table.Entries) < limit_of Table.Entries) }
+    ensures fault { IfErr result (NotAdded Table.Entries (length (with_edits t.old Table.Entries))) }
     ensures alone { EditsAlone t.old t.new }
 {
     let mut bytes = [0; 24];

@@ -2,7 +2,7 @@
 ghost use Rattle.std.specs.Prelude.{◌≡◌, ◌≢◌, ◌<◌, ◌≤◌, ◌+◌, ◌-◌, [], ℕ, List, length, get_or, slice_set, ◌⊎◌, OnOk, OnErr, IfErr, IsOk};
 ghost use Rattle.el_rows.specs.Changes.{OnTable};
 ghost use Rattle.el_row_formats.specs.RowBytes.{number_limit, script_row_bytes, FitsScriptRow};
-ghost use Rattle.el_rows.specs.Transaction.{tables_in, reads_in, EditsRows};
+ghost use Rattle.el_rows.specs.Transaction.{with_edits, reads_in, EditsRows};
 ghost use Rattle.el_row_formats.specs.declared.script_row.ScriptRow as script_shape;
 ghost use Rattle.el_row_formats.specs.declared.table.Table.{Table};
 ghost use Rattle.el_tables.specs.ChainLists.{ListedBlock};
@@ -26,15 +26,15 @@ use el_schema::{entry_row, script_row};
 fn leave_entry<R: Rows>(t: &mut Txn<'_, R>, script: u64, before: u64) -> Result<(), ConnectFault>
     requires live { R.is_live t.old.rows.now }
     requires before { before + 1 < number_limit }
-    ensures left { R.tells → script < length (tables_in t.old Table.Scripts)
+    ensures left { R.tells → script < length (with_edits t.old Table.Scripts)
         → (r : script_shape.ScriptRow) → FitsScriptRow r
-        → script_row_bytes r ≡ get_or (tables_in t.old Table.Scripts) script []
-        → OnOk result (tables_in t.new Table.Scripts
-        ≡ slice_set (tables_in t.old Table.Scripts) script (script_row_bytes (left_row before r))) }
-    ensures away { length (tables_in t.old Table.Scripts) ≤ script
-        → OnOk result (tables_in t.new ≡ tables_in t.old) }
-    ensures others { (u : Table) → u ≢ Table.Scripts → tables_in t.new u ≡ tables_in t.old u }
-    ensures err { OnErr result (tables_in t.new ≡ tables_in t.old) }
+        → script_row_bytes r ≡ get_or (with_edits t.old Table.Scripts) script []
+        → OnOk result (with_edits t.new Table.Scripts
+        ≡ slice_set (with_edits t.old Table.Scripts) script (script_row_bytes (left_row before r))) }
+    ensures away { length (with_edits t.old Table.Scripts) ≤ script
+        → OnOk result (with_edits t.new ≡ with_edits t.old) }
+    ensures others { (u : Table) → u ≢ Table.Scripts → with_edits t.new u ≡ with_edits t.old u }
+    ensures err { OnErr result (with_edits t.new ≡ with_edits t.old) }
     ensures fault { IfErr result IsStepFault }
     ensures edits { EditsRows ConnectFault.DiskFailed t.old t.new result }
     ensures rows { reads_in t.new ≤ reads_in t.old + 1 }
@@ -56,14 +56,14 @@ fn leave_entry<R: Rows>(t: &mut Txn<'_, R>, script: u64, before: u64) -> Result<
 fn drop_script<R: Rows>(t: &mut Txn<'_, R>) -> Result<(), ConnectFault>
     requires live { R.is_live t.old.rows.now }
     ensures dropped { (n : ℕ) (r : script_shape.ScriptRow) → R.tells
-        → length (tables_in t.old Table.Scripts) ≡ n + 1 → FitsScriptRow r
-        → script_row_bytes r ≡ get_or (tables_in t.old Table.Scripts) n []
-        → OnOk result (Popped Buckets.ScriptHashes r.script n (below n r.next) (tables_in t.old)
-        (tables_in t.new)) }
-    ensures none { length (tables_in t.old Table.Scripts) ≡ 0
-        → OnOk result (tables_in t.new ≡ tables_in t.old) }
-    ensures others { OthersStay Table.Scripts Table.ScriptHeads (tables_in t.old) (tables_in t.new) }
-    ensures err { OnErr result (tables_in t.new ≡ tables_in t.old) }
+        → length (with_edits t.old Table.Scripts) ≡ n + 1 → FitsScriptRow r
+        → script_row_bytes r ≡ get_or (with_edits t.old Table.Scripts) n []
+        → OnOk result (Popped Buckets.ScriptHashes r.script n (below n r.next) (with_edits t.old)
+        (with_edits t.new)) }
+    ensures none { length (with_edits t.old Table.Scripts) ≡ 0
+        → OnOk result (with_edits t.new ≡ with_edits t.old) }
+    ensures others { OthersStay Table.Scripts Table.ScriptHeads (with_edits t.old) (with_edits t.new) }
+    ensures err { OnErr result (with_edits t.new ≡ with_edits t.old) }
     ensures fault { IfErr result IsStepFault }
     ensures edits { EditsRows ConnectFault.DiskFailed t.old t.new result }
     ensures rows { reads_in t.new ≤ reads_in t.old + 1 }
@@ -86,16 +86,16 @@ pub fn take_back_entry<R: Rows>(t: &mut Txn<'_, R>) -> Result<(), ConnectFault>
     requires live { R.is_live t.old.rows.now }
     // It is the step of the lists, on all tables.
     ensures lists { (counts : HeadCounts) (bs : List ListedBlock) (l : Lists) → R.tells
-        → Hold counts bs l (tables_in t.old) → IsNumbered l.scripts l.entries
-        → OnOk result (Hold counts bs (back.take_back_entry l) (tables_in t.new)) }
+        → Hold counts bs l (with_edits t.old) → IsNumbered l.scripts l.entries
+        → OnOk result (Hold counts bs (back.take_back_entry l) (with_edits t.new)) }
     // What follows holds over any rows.
-    ensures none { length (tables_in t.old Table.Entries) ≡ 0
-        → IsOk result × (tables_in t.new ≡ tables_in t.old) }
-    ensures shorter { OnOk result (length (tables_in t.new Table.Entries)
-        ≡ length (tables_in t.old Table.Entries) - 1) }
+    ensures none { length (with_edits t.old Table.Entries) ≡ 0
+        → IsOk result × (with_edits t.new ≡ with_edits t.old) }
+    ensures shorter { OnOk result (length (with_edits t.new Table.Entries)
+        ≡ length (with_edits t.old Table.Entries) - 1) }
     ensures others { (u : Table) → u ≢ Table.Scripts → u ≢ Table.ScriptHeads → u ≢ Table.Entries
-        → tables_in t.new u ≡ tables_in t.old u }
-    ensures err { OnErr result (tables_in t.new ≡ tables_in t.old) }
+        → with_edits t.new u ≡ with_edits t.old u }
+    ensures err { OnErr result (with_edits t.new ≡ with_edits t.old) }
     ensures fault { IfErr result (λ e. (e ≡ ConnectFault.DiskFailed) ⊎ (e ≡ ConnectFault.Memory)) }
     ensures edits { EditsRows ConnectFault.DiskFailed t.old t.new result }
     ensures rows { reads_in t.new ≤ reads_in t.old + 2 }

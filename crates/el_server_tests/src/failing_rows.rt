@@ -1,7 +1,7 @@
 // A store in memory whose device fails at chosen calls. It tells no rows.
 ghost use Rattle.std.specs.Prelude.{◌≡◌, [], length};
 ghost use Rattle.el_outside.specs.Counts.{HasCause};
-ghost use Rattle.el_row_formats.specs.Tables.{tables_of};
+ghost use Rattle.el_row_formats.specs.Tables.{tables_listed};
 
 use el_base::{GhostCount, OutOfMemory};
 use el_outside::DiskFailed;
@@ -66,7 +66,7 @@ impl Rows for FailingRows {
 
     ghost lists = { λ s t. [] };
 
-    ghost counts = { λ s t. length (tables_of s.rows.rows t) };
+    ghost counts = { λ s t. length (tables_listed s.rows.rows t) };
 
     ghost heads = { λ s. 0 };
 

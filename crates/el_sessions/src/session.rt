@@ -161,8 +161,8 @@ impl Subs {
         find(&self.map, s).is_some()
     }
 
-    // Subscribes to a script hash that isn't there, as the last. Fails where memory runs out, or where as many
-    // came as can be numbered.
+    // Subscribes to a script hash that isn't there, as the last. Fails where memory runs out, or where as
+    // many came as can be numbered.
     fn add(&mut self, s: Hash32, told: Option<Hash32>) -> Result<(), OutOfMemory>
         requires { is_subscribed s self.old ≡ false }
         ensures ok { OnOk result (self.new ≡ subscribed s told self.old) }
@@ -208,8 +208,8 @@ impl Subs {
         }
     }
 
-    /// Drops the subscription to the script hash; the others stay in their order. Whether there was one. Takes
-    /// no memory.
+    /// Drops the subscription to the script hash; the others stay in their order. Whether there was one.
+    /// Takes no memory.
     pub fn unsubscribe(&mut self, s: &Hash32) -> bool
         ensures was { result ≡ is_subscribed s.now self.old }
         ensures gone { self.new ≡ unsubscribed s.now self.old }
@@ -248,8 +248,8 @@ impl Subs {
         }
     }
 
-    /// Those of the script hashes to which there is a subscription, in the order of the subscriptions. Each is
-    /// looked up once, and no other subscription is looked at. Fails only where memory runs out.
+    /// Those of the script hashes to which there is a subscription, in the order of the subscriptions. Each
+    /// is looked up once, and no other subscription is looked at. Fails only where memory runs out.
     pub fn held_among(&self, alloc: Global, scripts: &[Hash32]) -> Result<Vec<Hash32>, OutOfMemory>
         requires { IsDistinct same_script scripts.now }
         ensures held { IfOk result (λ held. held.items ≡ held_among scripts.now self.now) }

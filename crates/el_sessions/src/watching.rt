@@ -130,14 +130,14 @@ impl Watched {
         }
     }
 
-    /// Subscribes a client to a script hash of which it was told this status, and counts it. One that is there
-    /// keeps its place, and is counted already.
+    /// Subscribes a client to a script hash of which it was told this status, and counts it. One that is
+    /// there keeps its place, and is counted already.
     ///
     /// # Errors
     ///
-    /// `SubsFault::TooMany` exactly where it is new and the client has `SUBSCRIPTION_LIMIT`, and `Memory` where
-    /// it is new, the client has fewer, and memory runs out, or as many were counted or came before as can be
-    /// numbered. Nothing has then changed, but that memory was taken.
+    /// `SubsFault::TooMany` exactly where it is new and the client has `SUBSCRIPTION_LIMIT`, and `Memory`
+    /// where it is new, the client has fewer, and memory runs out, or as many were counted or came before as
+    /// can be numbered. Nothing has then changed, but that memory was taken.
     pub fn subscribe(
         &mut self,
         subs: &mut Subs,
@@ -161,8 +161,8 @@ impl Watched {
         self.add(subs, s, told)
     }
 
-    /// Drops a client's subscription to the script hash, and counts it no more. Whether there was one. Takes no
-    /// memory.
+    /// Drops a client's subscription to the script hash, and counts it no more. Whether there was one. Takes
+    /// no memory.
     pub fn unsubscribe(&mut self, subs: &mut Subs, s: &Hash32) -> bool
         ensures was { result ≡ is_subscribed s.now subs.old }
         ensures gone { subs.new ≡ unsubscribed s.now subs.old }
@@ -177,7 +177,8 @@ impl Watched {
 
     /// Counts the subscriptions of a client that goes no more, and drops them. Takes no memory.
     pub fn uncount(&mut self, subs: &mut Subs)
-        ensures less { (t : shape.Hash32) → counted self.new t ≡ counted self.old t - times t (keys_of subs.old) }
+        ensures less { (t : shape.Hash32)
+            → counted self.new t ≡ counted self.old t - times t (keys_of subs.old) }
         ensures dropped { subs.new ≡ [] }
     {
         while let Some(s) = subs.drop_any() {

@@ -5,7 +5,7 @@ use Rattle.el_side.specs.Deeds.{Deed}
 use Rattle.el_outside.specs.Files.{AllGrow}
 use Rattle.el_chain.specs.declared.node.Node.{Node}
 use Rattle.el_chain.specs.Chains.{Chain}
-use Rattle.el_mempool.specs.Standing.{StandsFor}
+use Rattle.el_mempool.specs.Standing.{KeptStandFor}
 use Rattle.el_fees.specs.Tables.{IsTableOf}
 use Rattle.el_model.specs.LedgerCalls.{Moved}
 use Rattle.el_lines.specs.declared.node_answer.NodeAnswer.{NodeAnswer}
@@ -21,7 +21,7 @@ use Rattle.el_side.specs.Side.{Side, IsSure}
 -- line began, its start: that is the side's chain where the line left nothing to do. Of a side that is unsure
 -- the set may hold anything. So with the table of its fees, and with what was computed once.
 pub record SetStands (holdings : Holdings) (caches : Caches) (side : Side) (start : Chain) : Type 0 where
-  pub stood : IsSure side → StandsFor holdings.pool.entries start side.kept
+  pub stood : IsSure side → KeptStandFor holdings.pool.entries start side.kept
   pub fees : IsSure side → IsTableOf holdings.fees holdings.pool.entries
   pub computed : IsSure side → CachesStand caches start side.chain
   pub still : side.ahead ≡ [] → start ≡ side.chain
@@ -41,7 +41,7 @@ pub record IsAt {G A : Type 0} (of : Ghosts G A) (now : Beneath G A) (holdings :
 pub record IsSettled {G A : Type 0} (of : Ghosts G A) (now : Beneath G A) (holdings : Holdings)
     (caches : Caches) (side : Side) : Type 0 where
   pub stood : IsSure side → of.ledger.stands now.ledger side.chain
-  pub set : IsSure side → StandsFor holdings.pool.entries side.chain side.kept
+  pub set : IsSure side → KeptStandFor holdings.pool.entries side.chain side.kept
   pub fees : IsSure side → IsTableOf holdings.fees holdings.pool.entries
   pub computed : IsSure side → CachesStand caches side.chain side.chain
   pub found : holdings.tree ≡ side.found

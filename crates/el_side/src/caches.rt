@@ -66,7 +66,8 @@ impl Caches {
         requires live { G.is_live ledger.old }
         ensures stand { (start chain : Chain) → G.stands ledger.old chain → CachesStand self.old start chain
             → OnOk result (CachesStand self.new chain chain) }
-        ensures rows { G.reads ledger.new ≤ G.reads ledger.old + GROUP * (blocks_in (G.height ledger.old) / GROUP
+        ensures rows { G.reads ledger.new ≤ G.reads ledger.old + GROUP *
+            (blocks_in (G.height ledger.old) / GROUP
             - min (self.old.same / GROUP) (length self.old.levels.roots)) }
         ensures quiet { Asked ⟦<G as Ledger>⟧ ledger.old ledger.new }
         ensures cause { CountsOnly (G.faults ledger.old) (G.faults ledger.new) QueryFault.DiskFailed result }

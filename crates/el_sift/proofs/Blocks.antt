@@ -25,8 +25,8 @@ use Rattle.el_mempool.proofs.Confirmed.{hash_turned}
 use Rattle.el_mempool.proofs.Arrivals.{fresh_from}
 use Rattle.el_mempool.proofs.Sifted.{AreFresh}
 use Rattle.el_kept.specs.declared.table.Table.{Table}
-use Rattle.el_kept.specs.Named.{IsOver}
-use Rattle.el_kept.specs.Tables.{standing, has}
+use Rattle.el_kept.specs.Named.{IsTableOver}
+use Rattle.el_kept.specs.Tables.{undropped, has}
 use Rattle.el_sift.specs.within.Renewal.{KnowsAll, has_in_block}
 
 -- ---- a chain's transactions, block by block
@@ -60,8 +60,8 @@ above_same before chain same x common none =
 
 -- ---- and of the entries
 
-told_since : (before chain : Chain) (same : ℕ) (table : Table) (all : List Tx) (found : List Hash32) → IsOver table before all → take same before ≡ take same chain
-    → ((x : Hash32) → has found x ≡ list_any (has_in_block x) (drop same chain)) → KnowsAll chain found (standing table.kept.entries)
+told_since : (before chain : Chain) (same : ℕ) (table : Table) (all : List Tx) (found : List Hash32) → IsTableOver table before all → take same before ≡ take same chain
+    → ((x : Hash32) → has found x ≡ list_any (has_in_block x) (drop same chain)) → KnowsAll chain found (undropped table.kept.entries)
 told_since before chain same table all found over common h =
     subst (λ (ks : List KeptTx). KnowsAll chain found ks) (sym (over.table.are ∙ over.stands.are)) (each all (fresh_from before [] all (joins_of (may_join before) all over.stands.sifted)))
   where
@@ -69,8 +69,8 @@ told_since before chain same table all found over common h =
     each [] fresh = tt
     each (t ∷ ts) fresh = (h (txid t) ∙ sym (above_same before chain same (txid t) common fresh.0), each ts fresh.1)
 
-pub if_told_since : (before chain : Chain) (same : ℕ) (table : Table) (all : List Tx) (r : Result (List Hash32) QueryFault) → IsOver table before all → take same before ≡ take same chain
-    → ((x : Hash32) → IfOk r (λ found. has found x ≡ list_any (has_in_block x) (drop same chain))) → IfOk r (λ found. KnowsAll chain found (standing table.kept.entries))
+pub if_told_since : (before chain : Chain) (same : ℕ) (table : Table) (all : List Tx) (r : Result (List Hash32) QueryFault) → IsTableOver table before all → take same before ≡ take same chain
+    → ((x : Hash32) → IfOk r (λ found. has found x ≡ list_any (has_in_block x) (drop same chain))) → IfOk r (λ found. KnowsAll chain found (undropped table.kept.entries))
 if_told_since before chain same table all (Ok found) over common h = told_since before chain same table all found over common h
 if_told_since before chain same table all (Err e) over common h = tt
 

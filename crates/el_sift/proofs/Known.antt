@@ -16,7 +16,7 @@ use Rattle.el_chain.specs.declared.node.Spot.{Spot}
 use Rattle.el_model.specs.Queries.{find_tx}
 use Rattle.std.specs.Option.{is_some}
 use Rattle.el_kept.proofs.Lookups.{confirmed_is}
-use Rattle.el_kept.specs.Tables.{standing, has}
+use Rattle.el_kept.specs.Tables.{undropped, has}
 use Rattle.el_kept.proofs.Slots.{Slot}
 use Rattle.el_sift.specs.within.Renewal.{Knows, KnowsAll}
 
@@ -73,7 +73,7 @@ told_all chain found ids ks same h = are_told chain found ks (λ x in_all. h x �
 
 -- ---- the txids of the slots one after the other
 abbrev pub ids_of : List Slot → List Hash32
-ids_of ss = map (λ (k : KeptTx). k.txid) (standing ss)
+ids_of ss = map (λ (k : KeptTx). k.txid) (undropped ss)
 
 pub begun : (ids : List Hash32) (all ss : List Slot) → ids ≡ [] → ss ≡ all → ids ++ ids_of ss ≡ ids_of all
 begun ids all ss none same = ap (λ l. l ++ ids_of ss) none ∙ ap ids_of same
@@ -81,12 +81,12 @@ begun ids all ss none same = ap (λ l. l ++ ids_of ss) none ∙ ap ids_of same
 pub one_more : (ids more : List Hash32) (s t all : List Slot) (id : Hash32) (slot : Option KeptTx) (k : KeptTx) → s ≡ (id, slot) ∷ t → slot ≡ Some k → more ≡ ids ++ k.txid ∷ []
     → ids ++ ids_of s ≡ ids_of all → more ++ ids_of t ≡ ids_of all
 one_more ids more s t all id slot k first some pushed h =
-    let is : standing s ≡ k ∷ standing t = ap standing first ∙ ap (λ x. option_to_list x ++ standing t) some in
+    let is : undropped s ≡ k ∷ undropped t = ap undropped first ∙ ap (λ x. option_to_list x ++ undropped t) some in
     ap (λ l. l ++ ids_of t) pushed ∙ append_assoc ids (k.txid ∷ []) (ids_of t) ∙ sym (ap (λ (l : List KeptTx). ids ++ map (λ (x : KeptTx). x.txid) l) is) ∙ h
 
 pub one_empty : (ids : List Hash32) (s t all : List Slot) (id : Hash32) (slot : Option KeptTx) → s ≡ (id, slot) ∷ t → slot ≡ None → ids ++ ids_of s ≡ ids_of all → ids ++ ids_of t ≡ ids_of all
 one_empty ids s t all id slot first none h =
-    let is : standing s ≡ standing t = ap standing first ∙ ap (λ x. option_to_list x ++ standing t) none in
+    let is : undropped s ≡ undropped t = ap undropped first ∙ ap (λ x. option_to_list x ++ undropped t) none in
     sym (ap (λ (l : List KeptTx). ids ++ map (λ (x : KeptTx). x.txid) l) is) ∙ h
 
 pub all_sorted : (x : Hash32) (ids sorted : List Hash32) (s all : List Slot) → s ≡ [] → ids ++ ids_of s ≡ ids_of all → IsPermutation ids sorted → has sorted x ≡ has (ids_of all) x
@@ -130,13 +130,13 @@ if_told chain (Err e) slice ids ks cut same h = tt
 
 -- ---- and of the entries
 pub first_told : (chain : Chain) (confirmed : List Hash32) (s t : List Slot) (id : Hash32) (slot : Option KeptTx) (k : KeptTx) → s ≡ (id, slot) ∷ t → slot ≡ Some k
-    → KnowsAll chain confirmed (standing s) → Knows chain confirmed k × KnowsAll chain confirmed (standing t)
+    → KnowsAll chain confirmed (undropped s) → Knows chain confirmed k × KnowsAll chain confirmed (undropped t)
 first_told chain confirmed s t id slot k first some h =
-    let is : standing s ≡ k ∷ standing t = ap standing first ∙ ap (λ x. option_to_list x ++ standing t) some in
+    let is : undropped s ≡ k ∷ undropped t = ap undropped first ∙ ap (λ x. option_to_list x ++ undropped t) some in
     subst (λ (l : List KeptTx). KnowsAll chain confirmed l) is h
 
 pub rest_told : (chain : Chain) (confirmed : List Hash32) (s t : List Slot) (id : Hash32) (slot : Option KeptTx) → s ≡ (id, slot) ∷ t → slot ≡ None
-    → KnowsAll chain confirmed (standing s) → KnowsAll chain confirmed (standing t)
+    → KnowsAll chain confirmed (undropped s) → KnowsAll chain confirmed (undropped t)
 rest_told chain confirmed s t id slot first none h =
-    let is : standing s ≡ standing t = ap standing first ∙ ap (λ x. option_to_list x ++ standing t) none in
+    let is : undropped s ≡ undropped t = ap undropped first ∙ ap (λ x. option_to_list x ++ undropped t) none in
     subst (λ (l : List KeptTx). KnowsAll chain confirmed l) is h

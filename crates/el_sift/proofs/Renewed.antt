@@ -24,8 +24,8 @@ use Rattle.el_mempool.proofs.Sifted.{joins_named}
 use Rattle.el_kept.specs.declared.table.Table.{Table}
 use Rattle.el_kept.specs.Tables.{has}
 use Rattle.el_kept.specs.declared.found.FoundOutput.{FoundOutput}
-use Rattle.el_kept.specs.Named.{total_sources, output_at, IsOver, found_by, AreUnspent}
-use Rattle.el_sift.specs.within.Renewal.{source_with, renewed, all_take, flag_of, each_free, output_left, AreSeen, IsLeft, IsNext}
+use Rattle.el_kept.specs.Named.{total_sources, kept_output, IsTableOver, found_by, AreUnspent}
+use Rattle.el_sift.specs.within.Renewal.{source_with, renewed, all_take, flag_of, each_free, output_left, AreSeen, IsLeft, SiftsNext}
 use Rattle.el_kept.proofs.Lookups.{none_of, output_is, any_from, sources_sum, outputs_sum}
 
 -- ---- inputs one after the other
@@ -152,12 +152,12 @@ if_none (Some x) P is h = absurd (some_none x is)
     some_none y e = cc
 
 -- what the outpoint names of those that aren't gone
-left_one : (table : Table) (before : Chain) (all kept : List Tx) (gone : List Hash32) (any : Bool) (o : Outpoint) → IsOver table before all → IsLeft all kept gone o
+left_one : (table : Table) (before : Chain) (all kept : List Tx) (gone : List Hash32) (any : Bool) (o : Outpoint) → IsTableOver table before all → IsLeft all kept gone o
     → (any ≡ false → output_among o all ≡ None) → output_left table gone any o ≡ output_among o kept
 left_one table before all kept gone false o over h none = sym (h.none (none refl))
 left_one table before all kept gone true o over h none = by (has gone o.txid) refl
   where
-    by : (b : Bool) → has gone o.txid ≡ b → cond (not b) (output_at table o) None ≡ output_among o kept
+    by : (b : Bool) → has gone o.txid ≡ b → cond (not b) (kept_output table o) None ≡ output_among o kept
     by true e = sym (h.goes e)
     by false e = output_is table before all o over ∙ h.stays e
 
@@ -173,7 +173,7 @@ flag_none all t h = by (list_any (λ (i : TxIn). is_some (output_among i.from al
     by true e = absurd (cc)
     by false e = refl
 
-lefts : (table : Table) (before : Chain) (all kept : List Tx) (gone : List Hash32) (any : Bool) (is : List TxIn) → IsOver table before all → AllByRecursion (λ (i : TxIn). IsLeft all kept gone i.from) is
+lefts : (table : Table) (before : Chain) (all kept : List Tx) (gone : List Hash32) (any : Bool) (is : List TxIn) → IsTableOver table before all → AllByRecursion (λ (i : TxIn). IsLeft all kept gone i.from) is
     → (any ≡ false → AllByRecursion (λ (i : TxIn). output_among i.from all ≡ None) is) → AllByRecursion (λ (i : TxIn). output_left table gone any i.from ≡ output_among i.from kept) is
 lefts table before all kept gone any [] over h none = tt
 lefts table before all kept gone any (i ∷ is) over h none = (
@@ -190,14 +190,14 @@ seen_all left before chain all kept (i ∷ is) names unspent h = by (named befor
     by None none more = absurd (true≢false (sym none))
     by (Some v) some more = ((h.0, unspent i.from), more)
 
-module _ (before chain : Chain) (all kept : List Tx) (gone : List Hash32) (t : Tx) (k : KeptTx) (e : IsNext before all kept gone t k) where
+module _ (before chain : Chain) (all kept : List Tx) (gone : List Hash32) (t : Tx) (k : KeptTx) (e : SiftsNext before all kept gone t k) where
   id_is : k.txid ≡ txid t
   id_is = ap (λ (x : KeptTx). x.txid) e.is
 
   inputs_are : k.inputs ≡ sources before all t.inputs
   inputs_are = ap (λ (x : KeptTx). x.inputs) e.is
 
-  pub when_seen : (table : Table) (any : Bool) (ss : List Source) → IsOver table before all → AreUnspent chain kept → (any ≡ false → k.flag ≡ pos 0) → ss ≡ k.inputs
+  pub when_seen : (table : Table) (any : Bool) (ss : List Source) → IsTableOver table before all → AreUnspent chain kept → (any ≡ false → k.flag ≡ pos 0) → ss ≡ k.inputs
       → AreSeen (output_left table gone any) chain kept ss
   when_seen table any ss over unspent plain same =
       subst (AreSeen (output_left table gone any) chain kept) (sym (same ∙ inputs_are))

@@ -25,7 +25,7 @@ use Rattle.el_mempool.specs.declared.held.Source.{Source}
 use Rattle.el_mempool.specs.declared.held.KeptTx.{KeptTx}
 use Rattle.el_mempool.specs.Sift.{coin_named, output_among, named, output_held, total_held, any_takes, is_taken, each_takes, held_by, is_confirmed, may_join, joined, sift}
 use Rattle.el_mempool.specs.Refusals.{is_kept}
-use Rattle.el_mempool.specs.Standing.{source_at, sources, kept_tx, is_at_script, StandsFor, AreChanged}
+use Rattle.el_mempool.specs.Standing.{source_at, sources, kept_tx, is_at_script, KeptStandFor, AreChanged}
 use Rattle.el_mempool.specs.Unconfirmed.{flag}
 use Rattle.el_mempool.specs.Moving.{differs_at, step_differs, any_differs}
 use Rattle.el_mempool.specs.declared.fees.FeeChange.{FeeChange}
@@ -41,11 +41,11 @@ use Rattle.el_mempool.proofs.Joining.{free_joins, stands_with}
 use Rattle.el_mempool.proofs.Arrivals.{fresh_from}
 use Rattle.el_mempool.proofs.Sifted.{AreFresh, NoneKept, none_more, none_of_nothing, joins_named, sift_changes}
 use Rattle.el_kept.specs.declared.retaking.Takes.{Takes}
-use Rattle.el_kept.specs.Tables.{standing, has, without, with_takes, same_froms, retaken}
+use Rattle.el_kept.specs.Tables.{undropped, has, without_txids, with_takes, same_froms, retaken}
 use Rattle.el_kept.proofs.Slots.{Slot}
 use Rattle.el_kept.proofs.Retaken.{off_one, told_one, id_same}
 use Rattle.el_kept.specs.Named.{total_sources, AreUnspent}
-use Rattle.el_sift.specs.within.Renewal.{each_free, IsLeft, IsNext, IsKeptOn, IsSifted, takes_of, settled}
+use Rattle.el_sift.specs.within.Renewal.{each_free, IsLeft, SiftsNext, IsKeptOn, IsSifted, takes_of, settled}
 use Rattle.el_kept.proofs.Lookups.{kept_unspent, unspent_of, fee_is}
 
 -- ---- one of them
@@ -77,7 +77,7 @@ froms_same before chain all kept (i ∷ is) h g =
 
 -- it stays
 pub stays : (before chain : Chain) (all kept : List Tx) (t : Tx) (k : KeptTx) (gone : List Hash32) (changed now : List Takes) (fees fees_now : List FeeChange) (old new : List Hash32) (f : ℤ) (found : List Source)
-    → IsNext before all kept gone t k → (may_join chain kept t ≡ true) × (found ≡ sources chain kept t.inputs) × (f ≡ flag kept t)
+    → SiftsNext before all kept gone t k → (may_join chain kept t ≡ true) × (found ≡ sources chain kept t.inputs) × (f ≡ flag kept t)
     → IsKeptOn k (with_takes k f (total_sources found - total_held k.outputs) found) changed now
     → fees_now ≡ fees ++ stay_changes k (with_takes k f (total_sources found - total_held k.outputs) found)
     → ((s : Hash32) → list_any (same_hash s) new ≡ (list_any (same_hash s) old || differs_at s.0 k (with_takes k f (total_sources found - total_held k.outputs) found)))
@@ -100,7 +100,7 @@ stays before chain all kept t k gone changed now fees fees_now old new f found e
     }
 
 -- it goes
-pub goes : (before chain : Chain) (all kept : List Tx) (t : Tx) (k : KeptTx) (gone gone_now : List Hash32) (changed : List Takes) (fees fees_now : List FeeChange) (old new : List Hash32) → IsNext before all kept gone t k
+pub goes : (before chain : Chain) (all kept : List Tx) (t : Tx) (k : KeptTx) (gone gone_now : List Hash32) (changed : List Takes) (fees fees_now : List FeeChange) (old new : List Hash32) → SiftsNext before all kept gone t k
     → may_join chain kept t ≡ false → ((id : Hash32) → has gone_now id ≡ (has gone id || same_hash id k.txid))
     → fees_now ≡ fees ++ fee_change false k ∷ []
     → ((s : Hash32) → list_any (same_hash s) new ≡ (list_any (same_hash s) old || is_at_script s.0 k)) → IsSifted before chain all kept t gone gone_now changed changed fees fees_now old new
@@ -233,7 +233,7 @@ pub record AreLeft (before chain : Chain) (all : List Tx) (gone : List Hash32) (
   pub kept_are : kept ≡ rest (has gone) done
   pub are : entries ≡ map (kept_tx before all) rs
   pub joins : AllJoin (may_join before) done rs
-  pub stands : StandsFor (so_far before all changed kept) chain kept
+  pub stands : KeptStandFor (so_far before all changed kept) chain kept
   pub fees_are : fees ≡ fee_changes (map (kept_tx before all) done) (so_far before all changed kept)
   pub matched : Matched (map (kept_tx before all) done) (so_far before all changed kept)
   pub sifted : fold (joined chain) kept rs ≡ sift chain all
@@ -243,7 +243,7 @@ pub record AreLeft (before chain : Chain) (all : List Tx) (gone : List Hash32) (
   pub apart : KeysApart txid rs
   pub told : (s : Hash32) → (list_any (same_hash s) touched || any_differs before all chain kept s rs) ≡ any_differs before all chain [] s all
 
-pub all_left : (before chain : Chain) (all : List Tx) (entries : List KeptTx) → StandsFor entries before all → AreLeft before chain all [] [] [] [] entries
+pub all_left : (before chain : Chain) (all : List Tx) (entries : List KeptTx) → KeptStandFor entries before all → AreLeft before chain all [] [] [] [] entries
 all_left before chain all entries h = record {
   done = [];
   kept = [];
@@ -303,7 +303,7 @@ rest_but g ts t h = filter-append (λ (u : Tx). not (g (txid u))) ts (t ∷ []) 
 
 abbrev pub StepsOf : Chain → Chain → List Tx → List Hash32 → List Hash32 → List Takes → List Takes → List FeeChange → List FeeChange → List Hash32 → List Hash32 → KeptTx → Type 0
 StepsOf before chain all gone gone_now changed now fees fees_now touched touched_now k =
-    (kept : List Tx) (t : Tx) → IsNext before all kept gone t k → AreUnspent chain kept → IsSifted before chain all kept t gone gone_now changed now fees fees_now touched touched_now
+    (kept : List Tx) (t : Tx) → SiftsNext before all kept gone t k → AreUnspent chain kept → IsSifted before chain all kept t gone gone_now changed now fees fees_now touched touched_now
 
 -- none of those done has its txid
 apart_done : (before : Chain) (all : List Tx) (id : Hash32) (ts : List Tx) → is_kept id ts ≡ false
@@ -341,7 +341,7 @@ one_left before chain all gone gone_now changed now fees fees_now touched touche
             let both = and_parts (not (is_confirmed before (txid t))) (each_takes before h.done t.inputs && not (nat_lt (total_held (held_by before h.done t.inputs)) (total_value t.outputs))) joins.0 in
             not-true (nat_lt (total_held (held_by before h.done t.inputs)) (total_value t.outputs)) (and_parts (each_takes before h.done t.inputs) (not (nat_lt (total_held (held_by before h.done t.inputs)) (total_value t.outputs))) both.1).1
 
-        next : IsNext before all h.kept gone t k
+        next : SiftsNext before all h.kept gone t k
         next = record {
           is = first;
           named = subst (λ (l : List Tx). AreNamed before l t.inputs) (sym whole) (are_named_more before h.done (t ∷ ts) t.inputs names);
@@ -400,7 +400,7 @@ one_left before chain all gone gone_now changed now fees fees_now touched touche
               kept_are = ap (λ l. l ++ t ∷ []) h.kept_are ∙ sym (rest_with (has gone) h.done t not_gone) ∙ ap (λ (l : List Hash32). rest (has l) (h.done ++ t ∷ [])) (sym said.0);
               are = others;
               joins = joins.1;
-              stands = subst (λ (l : List KeptTx). StandsFor l chain (h.kept ++ t ∷ [])) (sym entries)
+              stands = subst (λ (l : List KeptTx). KeptStandFor l chain (h.kept ++ t ∷ [])) (sym entries)
                   (stands_with (so_far before all changed h.kept) chain h.kept t h.stands (free_joins chain h.kept t may not_kept));
               fees_are = said.3 ∙ ap (λ (l : List FeeChange). l ++ stay_changes (kept_tx before all t) (kept_tx chain h.kept t)) h.fees_are ∙ sym paired.1
                   ∙ ap₂ fee_changes (sym one_done) (sym entries);
@@ -426,7 +426,7 @@ one_left before chain all gone gone_now changed now fees fees_now touched touche
               kept_are = h.kept_are ∙ sym (rest_same (has gone) (has gone_now) (txid t) h.done said.0 new.0) ∙ sym (rest_but (has gone_now) h.done t in_it);
               are = others;
               joins = joins.1;
-              stands = subst (λ (cs : List Takes). StandsFor (so_far before all cs h.kept) chain h.kept) (sym said.1) h.stands;
+              stands = subst (λ (cs : List Takes). KeptStandFor (so_far before all cs h.kept) chain h.kept) (sym said.1) h.stands;
               fees_are = said.2 ∙ ap (λ (l : List FeeChange). l ++ fee_change false (kept_tx before all t) ∷ []) h.fees_are ∙ sym paired.1
                   ∙ ap₂ fee_changes (sym one_done) (ap (λ (cs : List Takes). so_far before all cs h.kept) (sym said.1));
               matched = subst (λ (cs : List Takes). Matched (map (kept_tx before all) (h.done ++ t ∷ [])) (so_far before all cs h.kept)) (sym said.1)
@@ -448,31 +448,31 @@ or_false true = refl
 or_false false = refl
 
 -- the entries of those that stay
-without_is : (before : Chain) (all : List Tx) (ids : List Hash32) (ts : List Tx) → without ids (map (kept_tx before all) ts) ≡ map (kept_tx before all) (rest (has ids) ts)
+without_is : (before : Chain) (all : List Tx) (ids : List Hash32) (ts : List Tx) → without_txids ids (map (kept_tx before all) ts) ≡ map (kept_tx before all) (rest (has ids) ts)
 without_is before all ids [] = refl
 without_is before all ids (t ∷ ts) = by (has ids (txid t)) (without_is before all ids ts)
   where
-    by : (b : Bool) → without ids (map (kept_tx before all) ts) ≡ map (kept_tx before all) (rest (has ids) ts)
-        → cond (not b) (kept_tx before all t ∷ without ids (map (kept_tx before all) ts)) (without ids (map (kept_tx before all) ts)) ≡ map (kept_tx before all) (cond (not b) (t ∷ rest (has ids) ts) (rest (has ids) ts))
+    by : (b : Bool) → without_txids ids (map (kept_tx before all) ts) ≡ map (kept_tx before all) (rest (has ids) ts)
+        → cond (not b) (kept_tx before all t ∷ without_txids ids (map (kept_tx before all) ts)) (without_txids ids (map (kept_tx before all) ts)) ≡ map (kept_tx before all) (cond (not b) (t ∷ rest (has ids) ts) (rest (has ids) ts))
     by true more = more
     by false more = ap (λ l. kept_tx before all t ∷ l) more
 
-pub none_left : (before chain : Chain) (all : List Tx) (entries : List KeptTx) (gone : List Hash32) (changed : List Takes) (fees : List FeeChange) (touched : List Hash32) → StandsFor entries before all → AllDiffer touched
+pub none_left : (before chain : Chain) (all : List Tx) (entries : List KeptTx) (gone : List Hash32) (changed : List Takes) (fees : List FeeChange) (touched : List Hash32) → KeptStandFor entries before all → AllDiffer touched
     → AreLeft before chain all gone changed fees touched []
-    → StandsFor (map (settled changed) (without gone entries)) chain (sift chain all) × AreChanged before all chain (sift chain all) touched
-    × (fees ≡ fee_changes entries (map (settled changed) (without gone entries)))
+    → KeptStandFor (map (settled changed) (without_txids gone entries)) chain (sift chain all) × AreChanged before all chain (sift chain all) touched
+    × (fees ≡ fee_changes entries (map (settled changed) (without_txids gone entries)))
 none_left before chain all entries gone changed fees touched stood once h = from_rest h.rs h.whole h.are h.sifted h.told
   where
     from_rest : (ts : List Tx) → all ≡ h.done ++ ts → [] ≡ map (kept_tx before all) ts → fold (joined chain) h.kept ts ≡ sift chain all
         → ((s : Hash32) → (list_any (same_hash s) touched || any_differs before all chain h.kept s ts) ≡ any_differs before all chain [] s all)
-        → StandsFor (map (settled changed) (without gone entries)) chain (sift chain all) × AreChanged before all chain (sift chain all) touched
-        × (fees ≡ fee_changes entries (map (settled changed) (without gone entries)))
+        → KeptStandFor (map (settled changed) (without_txids gone entries)) chain (sift chain all) × AreChanged before all chain (sift chain all) touched
+        × (fees ≡ fee_changes entries (map (settled changed) (without_txids gone entries)))
     from_rest [] whole are sifted told =
         let every : all ≡ h.done = whole ∙ append-nil h.done in
         let left : h.kept ≡ rest (has gone) all = h.kept_are ∙ ap (rest (has gone)) (sym every) in
-        let now : map (settled changed) (without gone entries) ≡ so_far before all changed h.kept =
-        ap (λ l. map (settled changed) (without gone l)) stood.are ∙ ap (map (settled changed)) (without_is before all gone all ∙ ap (map (kept_tx before all)) (sym left)) in (
-          subst (λ (l : List Tx). StandsFor (map (settled changed) (without gone entries)) chain l) sifted (subst (λ (l : List KeptTx). StandsFor l chain h.kept) (sym now) h.stands),
+        let now : map (settled changed) (without_txids gone entries) ≡ so_far before all changed h.kept =
+        ap (λ l. map (settled changed) (without_txids gone l)) stood.are ∙ ap (map (settled changed)) (without_is before all gone all ∙ ap (map (kept_tx before all)) (sym left)) in (
+          subst (λ (l : List Tx). KeptStandFor (map (settled changed) (without_txids gone entries)) chain l) sifted (subst (λ (l : List KeptTx). KeptStandFor l chain h.kept) (sym now) h.stands),
           sift_changes before chain entries all touched stood once (λ s. sym (or_false (list_any (same_hash s) touched)) ∙ told s),
           h.fees_are ∙ ap₂ fee_changes (sym (stood.are ∙ ap (map (kept_tx before all)) every)) (sym now),
         )
@@ -496,23 +496,23 @@ counts_moved {T = T} {U = U} s e d a b n f still is same k =
 -- ---- the slots one after the other
 
 pub left_start : (before chain : Chain) (all : List Tx) (gone : List Hash32) (changed : List Takes) (fees : List FeeChange) (touched : List Hash32) (es ss : List Slot) → gone ≡ [] → changed ≡ [] → fees ≡ [] → touched ≡ [] → ss ≡ es
-    → StandsFor (standing es) before all → AreLeft before chain all gone changed fees touched (standing ss)
+    → KeptStandFor (undropped es) before all → AreLeft before chain all gone changed fees touched (undropped ss)
 left_start before chain all gone changed fees touched es ss one two none three same h =
-    subst (λ (l : List Slot). AreLeft before chain all gone changed fees touched (standing l)) (sym same)
-    (subst (λ (l : List Hash32). AreLeft before chain all gone changed fees l (standing es)) (sym three)
-    (subst (λ (l : List FeeChange). AreLeft before chain all gone changed l [] (standing es)) (sym none)
-    (subst (λ (l : List Takes). AreLeft before chain all gone l [] [] (standing es)) (sym two)
-    (subst (λ (l : List Hash32). AreLeft before chain all l [] [] [] (standing es)) (sym one) (all_left before chain all (standing es) h)))))
+    subst (λ (l : List Slot). AreLeft before chain all gone changed fees touched (undropped l)) (sym same)
+    (subst (λ (l : List Hash32). AreLeft before chain all gone changed fees l (undropped es)) (sym three)
+    (subst (λ (l : List FeeChange). AreLeft before chain all gone changed l [] (undropped es)) (sym none)
+    (subst (λ (l : List Takes). AreLeft before chain all gone l [] [] (undropped es)) (sym two)
+    (subst (λ (l : List Hash32). AreLeft before chain all l [] [] [] (undropped es)) (sym one) (all_left before chain all (undropped es) h)))))
 
 pub left_some : (before chain : Chain) (all : List Tx) (gone gone_now : List Hash32) (changed now : List Takes) (fees fees_now : List FeeChange) (touched touched_now : List Hash32) (s t : List Slot) (id : Hash32) (slot : Option KeptTx) (k : KeptTx)
-    → s ≡ (id, slot) ∷ t → slot ≡ Some k → AreLeft before chain all gone changed fees touched (standing s) → StepsOf before chain all gone gone_now changed now fees fees_now touched touched_now k
-    → AreLeft before chain all gone_now now fees_now touched_now (standing t)
+    → s ≡ (id, slot) ∷ t → slot ≡ Some k → AreLeft before chain all gone changed fees touched (undropped s) → StepsOf before chain all gone gone_now changed now fees fees_now touched touched_now k
+    → AreLeft before chain all gone_now now fees_now touched_now (undropped t)
 left_some before chain all gone gone_now changed now fees fees_now touched touched_now s t id slot k first some h step =
-    let is : standing s ≡ k ∷ standing t = ap standing first ∙ ap (λ x. option_to_list x ++ standing t) some in
-    one_left before chain all gone gone_now changed now fees fees_now touched touched_now k (standing t) (subst (λ (l : List KeptTx). AreLeft before chain all gone changed fees touched l) is h) step
+    let is : undropped s ≡ k ∷ undropped t = ap undropped first ∙ ap (λ x. option_to_list x ++ undropped t) some in
+    one_left before chain all gone gone_now changed now fees fees_now touched touched_now k (undropped t) (subst (λ (l : List KeptTx). AreLeft before chain all gone changed fees touched l) is h) step
 
 pub left_none : (before chain : Chain) (all : List Tx) (gone : List Hash32) (changed : List Takes) (fees : List FeeChange) (touched : List Hash32) (s t : List Slot) (id : Hash32) (slot : Option KeptTx) → s ≡ (id, slot) ∷ t → slot ≡ None
-    → AreLeft before chain all gone changed fees touched (standing s) → AreLeft before chain all gone changed fees touched (standing t)
+    → AreLeft before chain all gone changed fees touched (undropped s) → AreLeft before chain all gone changed fees touched (undropped t)
 left_none before chain all gone changed fees touched s t id slot first none h =
-    let is : standing s ≡ standing t = ap standing first ∙ ap (λ x. option_to_list x ++ standing t) none in
+    let is : undropped s ≡ undropped t = ap undropped first ∙ ap (λ x. option_to_list x ++ undropped t) none in
     subst (λ (l : List KeptTx). AreLeft before chain all gone changed fees touched l) is h

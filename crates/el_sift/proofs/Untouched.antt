@@ -29,7 +29,7 @@ use Rattle.el_kept.specs.declared.retaking.Takes.{Takes}
 use Rattle.el_kept.specs.Tables.{has}
 use Rattle.el_kept.specs.Named.{AreUnspent}
 use Rattle.el_sift.specs.Untouched.{KeepsCoins}
-use Rattle.el_sift.specs.within.Renewal.{each_free, may_differ, IsUntouched, IsLeft, IsNext, IsSifted, Knows}
+use Rattle.el_sift.specs.within.Renewal.{each_free, may_differ, IsUntouched, IsLeft, SiftsNext, IsSifted, Knows}
 use Rattle.el_sift.proofs.Renewed.{each_named, takes_is}
 use Rattle.el_sift.proofs.Sifts.{same_kept, froms_same}
 
@@ -105,7 +105,7 @@ or_false true = refl
 or_false false = refl
 
 pub passes : (before chain : Chain) (all kept : List Tx) (t : Tx) (k : KeptTx) (gone confirmed touched : List Hash32) (changed : List Takes) (fees : List FeeChange) (scripts : List Hash32)
-    → IsUntouched gone confirmed touched k → KeepsCoins before chain touched → IsNext before all kept gone t k → AreUnspent chain kept → Knows chain confirmed k
+    → IsUntouched gone confirmed touched k → KeepsCoins before chain touched → SiftsNext before all kept gone t k → AreUnspent chain kept → Knows chain confirmed k
     → IsSifted before chain all kept t gone gone changed changed fees fees scripts scripts
 passes before chain all kept t k gone confirmed touched changed fees scripts u keeps e unspent told = record {
   went = λ off. absurd (true≢false (sym may ∙ off));

@@ -10,8 +10,8 @@ ghost use Rattle.el_model.specs.Queries.{blocks_in};
 ghost use Rattle.el_tx.specs.declared.types.Tx as shape;
 ghost use Rattle.el_mempool.specs.Sift.{is_confirmed};
 ghost use Rattle.el_mempool.specs.declared.held.KeptTx as kept_shape;
-ghost use Rattle.el_kept.specs.Named.{IsOver};
-ghost use Rattle.el_kept.specs.Tables.{standing, has};
+ghost use Rattle.el_kept.specs.Named.{IsTableOver};
+ghost use Rattle.el_kept.specs.Tables.{undropped, has};
 ghost use Rattle.el_sift.specs.Untouched.{KeepsUntouched};
 ghost use Rattle.el_sift.specs.within.Renewal.{KnowsAll, has_in_block};
 
@@ -28,7 +28,7 @@ const FEW: u64 = 256;
 // The txids of the kept transactions, rising.
 fn txids_in(alloc: Global, table: &Table) -> Result<Vec<Hash32>, OutOfMemory>
     ensures { (x : hash_shape.Hash32) → IfOk result (λ ids. has ids.items x
-        ≡ has (map (λ (k : kept_shape.KeptTx). k.txid) (standing table.now.kept.entries)) x) }
+        ≡ has (map (λ (k : kept_shape.KeptTx). k.txid) (undropped table.now.kept.entries)) x) }
 {
     let mut ids = Vec::new(alloc);
     for (_, slot) in table.kept.iter() {
@@ -84,7 +84,7 @@ fn confirmed_in<G: Ledger>(
 ) -> Result<Touched, QueryFault>
     requires live { G.is_live ledger.old }
     ensures told { (chain : Chain) → G.stands ledger.old chain
-        → IfOk result (λ found. KnowsAll chain found (standing table.now.kept.entries)) }
+        → IfOk result (λ found. KnowsAll chain found (undropped table.now.kept.entries)) }
     ensures quiet { Asked ⟦<G as Ledger>⟧ ledger.old ledger.new }
     ensures cause { CountsOnly (G.faults ledger.old) (G.faults ledger.new) QueryFault.DiskFailed result }
 {
@@ -139,9 +139,9 @@ fn confirmed_since<G: Ledger>(
     reach: Reach<'_>,
 ) -> Result<Touched, QueryFault>
     requires live { G.is_live ledger.old }
-    ensures told { (before chain : Chain) (all : List shape.Tx) → IsOver table.now before all
+    ensures told { (before chain : Chain) (all : List shape.Tx) → IsTableOver table.now before all
         → KeepsUntouched before chain reach.entry.same reach.entry.touched.now → G.stands ledger.old chain
-        → IfOk result (λ found. KnowsAll chain found (standing table.now.kept.entries)) }
+        → IfOk result (λ found. KnowsAll chain found (undropped table.now.kept.entries)) }
     ensures quiet { Asked ⟦<G as Ledger>⟧ ledger.old ledger.new }
     ensures cause { CountsOnly (G.faults ledger.old) (G.faults ledger.new) QueryFault.DiskFailed result }
 {
@@ -161,10 +161,10 @@ pub fn confirmed_over<G: Ledger>(
     reach: Option<Reach<'_>>,
 ) -> Result<Touched, QueryFault>
     requires live { G.is_live ledger.old }
-    ensures told { (before chain : Chain) (all : List shape.Tx) → IsOver table.now before all
+    ensures told { (before chain : Chain) (all : List shape.Tx) → IsTableOver table.now before all
         → IfSome reach.entry (λ r. KeepsUntouched before chain r.same r.touched.now)
         → G.stands ledger.old chain
-        → IfOk result (λ found. KnowsAll chain found (standing table.now.kept.entries)) }
+        → IfOk result (λ found. KnowsAll chain found (undropped table.now.kept.entries)) }
     ensures quiet { Asked ⟦<G as Ledger>⟧ ledger.old ledger.new }
     ensures cause { CountsOnly (G.faults ledger.old) (G.faults ledger.new) QueryFault.DiskFailed result }
 {

@@ -8,17 +8,17 @@ ghost use Rattle.el_chain.specs.Headers.{same_hash};
 ghost use Rattle.el_model.specs.LedgerCalls.{Asked};
 ghost use Rattle.el_tx.specs.declared.types.Tx as shape;
 ghost use Rattle.el_mempool.specs.Sift.{total_held, sift};
-ghost use Rattle.el_mempool.specs.Standing.{StandsFor, AreChanged, is_at_script, is_coin_at};
+ghost use Rattle.el_mempool.specs.Standing.{KeptStandFor, AreChanged, is_at_script, is_coin_at};
 ghost use Rattle.el_mempool.specs.Unconfirmed.{has_script};
 ghost use Rattle.el_mempool.specs.Moving.{differs_at};
 ghost use Rattle.el_mempool.specs.Fees.{fee_change, stay_changes, fee_changes, AreFeeChanges};
 ghost use Rattle.el_mempool.specs.declared.held.KeptTx as kept_shape;
 ghost use Rattle.el_kept.specs.declared.listing.Listing as listing_shape;
 ghost use Rattle.el_kept.specs.Listings.{txid_of, is_in, AreListed};
-ghost use Rattle.el_kept.specs.Tables.{standing, slot, has, with_takes, without, is_of, retaken, IsTable, HasFewSlots};
-ghost use Rattle.el_kept.specs.Named.{total_sources, IsOver, AreUnspent};
+ghost use Rattle.el_kept.specs.Tables.{undropped, slot, has, with_takes, without_txids, is_of, retaken, HasEntries, HasFewSlots};
+ghost use Rattle.el_kept.specs.Named.{total_sources, IsTableOver, AreUnspent};
 ghost use Rattle.el_sift.specs.Untouched.{KeepsUntouched};
-ghost use Rattle.el_sift.specs.within.Renewal.{settled, IsNext, IsKeptOn, Knows, KnowsAll, IsSifted};
+ghost use Rattle.el_sift.specs.within.Renewal.{settled, SiftsNext, IsKeptOn, Knows, KnowsAll, IsSifted};
 
 use crate::confirming::confirmed_over;
 use crate::exchanging::{have_same_scripts, touch_changes};
@@ -158,7 +158,7 @@ fn sift_one<G: Ledger>(
 ) -> Result<(), QueryFault>
     requires live { G.is_live ledger.old }
     ensures sifted { (before chain : Chain) (all kept : List shape.Tx) (t : shape.Tx)
-        → IsNext before all kept found.old.gone t entry.now → IsOver table.now before all
+        → SiftsNext before all kept found.old.gone t entry.now → IsTableOver table.now before all
         → AreUnspent chain kept → Knows chain confirmed.now entry.now
         → IfSome reach.entry (λ r. KeepsUntouched before chain r.same r.touched.now)
         → G.stands ledger.old chain
@@ -194,15 +194,15 @@ fn sift_all<G: Ledger>(
     ledger: &mut G,
 ) -> Result<Sifted, QueryFault>
     requires live { G.is_live ledger.old }
-    ensures sifted { (before chain : Chain) (all : List shape.Tx) → IsOver table.now before all
-        → KnowsAll chain confirmed.now (standing table.now.kept.entries)
+    ensures sifted { (before chain : Chain) (all : List shape.Tx) → IsTableOver table.now before all
+        → KnowsAll chain confirmed.now (undropped table.now.kept.entries)
         → IfSome reach.entry (λ r. KeepsUntouched before chain r.same r.touched.now)
         → G.stands ledger.old chain
-        → IfOk result (λ found. StandsFor (map (settled found.changed)
-        (without found.gone (standing table.now.kept.entries))) chain (sift chain all)
+        → IfOk result (λ found. KeptStandFor (map (settled found.changed)
+        (without_txids found.gone (undropped table.now.kept.entries))) chain (sift chain all)
         × AreChanged before all chain (sift chain all) found.touched
-        × (found.fees ≡ fee_changes (standing table.now.kept.entries) (map (settled found.changed)
-        (without found.gone (standing table.now.kept.entries))))) }
+        × (found.fees ≡ fee_changes (undropped table.now.kept.entries) (map (settled found.changed)
+        (without_txids found.gone (undropped table.now.kept.entries))))) }
     ensures quiet { Asked ⟦<G as Ledger>⟧ ledger.old ledger.new }
     ensures cause { CountsOnly (G.faults ledger.old) (G.faults ledger.new) QueryFault.DiskFailed result }
 {
@@ -229,11 +229,11 @@ fn relist(
     listings: &mut BTreeSet<Listing>,
     takes: &Takes,
 ) -> Result<(), OutOfMemory>
-    requires table { IsTable table.now (standing table.now.kept.entries) }
-    requires listed { AreListed listings.old (standing table.now.kept.entries) }
+    requires table { HasEntries table.now (undropped table.now.kept.entries) }
+    requires listed { AreListed listings.old (undropped table.now.kept.entries) }
     requires of { is_of takes.now (slot table.now takes.now.txid) ≡ true }
     ensures { OnOk result (AreListed listings.new
-        (map (retaken takes.now) (standing table.now.kept.entries))) }
+        (map (retaken takes.now) (undropped table.now.kept.entries))) }
 {
     match kept_under(table, &takes.txid) {
         Some(entry) => list_again(alloc, listings, entry, takes.inputs.as_slice()),
@@ -248,12 +248,12 @@ fn settle_one(
     listings: &mut BTreeSet<Listing>,
     takes: Takes,
 ) -> Result<(), OutOfMemory>
-    requires table { IsTable table.old (standing table.old.kept.entries) }
-    requires listed { AreListed listings.old (standing table.old.kept.entries) }
-    ensures table { OnOk result (IsTable table.new
-        (map (retaken takes) (standing table.old.kept.entries))) }
+    requires table { HasEntries table.old (undropped table.old.kept.entries) }
+    requires listed { AreListed listings.old (undropped table.old.kept.entries) }
+    ensures table { OnOk result (HasEntries table.new
+        (map (retaken takes) (undropped table.old.kept.entries))) }
     ensures listed { OnOk result (AreListed listings.new
-        (map (retaken takes) (standing table.old.kept.entries))) }
+        (map (retaken takes) (undropped table.old.kept.entries))) }
 {
     if !is_of_kept(table, &takes) {
         return Ok(());
@@ -270,12 +270,12 @@ fn settle_all(
     listings: &mut BTreeSet<Listing>,
     changed: Listed<Takes>,
 ) -> Result<(), OutOfMemory>
-    requires table { IsTable table.old (standing table.old.kept.entries) }
-    requires listed { AreListed listings.old (standing table.old.kept.entries) }
-    ensures table { OnOk result (IsTable table.new
-        (map (settled changed) (standing table.old.kept.entries))) }
+    requires table { HasEntries table.old (undropped table.old.kept.entries) }
+    requires listed { AreListed listings.old (undropped table.old.kept.entries) }
+    ensures table { OnOk result (HasEntries table.new
+        (map (settled changed) (undropped table.old.kept.entries))) }
     ensures listed { OnOk result (AreListed listings.new
-        (map (settled changed) (standing table.old.kept.entries))) }
+        (map (settled changed) (undropped table.old.kept.entries))) }
 {
     for takes in changed.into_vec() {
         settle_one(alloc, table, listings, takes)?;
@@ -293,20 +293,20 @@ fn sift_in_place<G: Ledger>(
     reach: Option<Reach<'_>>,
 ) -> Result<Touched, QueryFault>
     requires live { G.is_live ledger.old }
-    requires table { IsTable table.old (standing table.old.kept.entries) }
-    requires listed { AreListed listings.old (standing table.old.kept.entries) }
-    ensures table { OnOk result (IsTable table.new (standing table.new.kept.entries)) }
+    requires table { HasEntries table.old (undropped table.old.kept.entries) }
+    requires listed { AreListed listings.old (undropped table.old.kept.entries) }
+    ensures table { OnOk result (HasEntries table.new (undropped table.new.kept.entries)) }
     ensures slots { OnOk result (HasFewSlots table.new) }
-    ensures listed { OnOk result (AreListed listings.new (standing table.new.kept.entries)) }
+    ensures listed { OnOk result (AreListed listings.new (undropped table.new.kept.entries)) }
     ensures sifted { (before chain : Chain) (kept : List shape.Tx)
-        → StandsFor (standing table.old.kept.entries) before kept → G.stands ledger.old chain
+        → KeptStandFor (undropped table.old.kept.entries) before kept → G.stands ledger.old chain
         → IfSome reach.entry (λ r. KeepsUntouched before chain r.same r.touched.now)
-        → IfOk result (λ touched. StandsFor (standing table.new.kept.entries) chain (sift chain kept)
+        → IfOk result (λ touched. KeptStandFor (undropped table.new.kept.entries) chain (sift chain kept)
         × AreChanged before kept chain (sift chain kept) touched) }
     ensures fees { (before chain : Chain) (kept : List shape.Tx)
-        → StandsFor (standing table.old.kept.entries) before kept → G.stands ledger.old chain
+        → KeptStandFor (undropped table.old.kept.entries) before kept → G.stands ledger.old chain
         → IfSome reach.entry (λ r. KeepsUntouched before chain r.same r.touched.now)
-        → OnOk result (AreFeeChanges (standing table.old.kept.entries) (standing table.new.kept.entries)
+        → OnOk result (AreFeeChanges (undropped table.old.kept.entries) (undropped table.new.kept.entries)
         changes.new.items) }
     ensures quiet { Asked ⟦<G as Ledger>⟧ ledger.old ledger.new }
     ensures cause { CountsOnly (G.faults ledger.old) (G.faults ledger.new) QueryFault.DiskFailed result }
@@ -342,20 +342,20 @@ pub fn sift_table<G: Ledger>(
     reach: Option<Reach<'_>>,
 ) -> Result<Touched, QueryFault>
     requires live { G.is_live ledger.old }
-    requires table { IsTable table.old (standing table.old.kept.entries) }
-    requires listed { AreListed listings.old (standing table.old.kept.entries) }
-    ensures table { IsTable table.new (standing table.new.kept.entries) }
-    ensures listed { AreListed listings.new (standing table.new.kept.entries) }
+    requires table { HasEntries table.old (undropped table.old.kept.entries) }
+    requires listed { AreListed listings.old (undropped table.old.kept.entries) }
+    ensures table { HasEntries table.new (undropped table.new.kept.entries) }
+    ensures listed { AreListed listings.new (undropped table.new.kept.entries) }
     ensures slots { HasFewSlots table.new }
     ensures sifted { (before chain : Chain) (kept : List shape.Tx)
-        → StandsFor (standing table.old.kept.entries) before kept → G.stands ledger.old chain
+        → KeptStandFor (undropped table.old.kept.entries) before kept → G.stands ledger.old chain
         → IfSome reach.entry (λ r. KeepsUntouched before chain r.same r.touched.now)
-        → IfOk result (λ touched. StandsFor (standing table.new.kept.entries) chain (sift chain kept)
+        → IfOk result (λ touched. KeptStandFor (undropped table.new.kept.entries) chain (sift chain kept)
         × AreChanged before kept chain (sift chain kept) touched) }
     ensures fees { (before chain : Chain) (kept : List shape.Tx)
-        → StandsFor (standing table.old.kept.entries) before kept → G.stands ledger.old chain
+        → KeptStandFor (undropped table.old.kept.entries) before kept → G.stands ledger.old chain
         → IfSome reach.entry (λ r. KeepsUntouched before chain r.same r.touched.now)
-        → OnOk result (AreFeeChanges (standing table.old.kept.entries) (standing table.new.kept.entries)
+        → OnOk result (AreFeeChanges (undropped table.old.kept.entries) (undropped table.new.kept.entries)
         changes.new.items) }
     ensures quiet { Asked ⟦<G as Ledger>⟧ ledger.old ledger.new }
     ensures cause { CountsOnly (G.faults ledger.old) (G.faults ledger.new) QueryFault.DiskFailed result }

@@ -7,7 +7,7 @@ ghost use Rattle.el_tx.specs.declared.types.Tx as shape;
 ghost use Rattle.el_mempool.specs.Sift.{coin_named, may_join};
 ghost use Rattle.el_mempool.specs.Standing.{sources};
 ghost use Rattle.el_mempool.specs.Unconfirmed.{flag};
-ghost use Rattle.el_kept.specs.Named.{found_by, AreUnspent, IsOver};
+ghost use Rattle.el_kept.specs.Named.{found_by, AreUnspent, IsTableOver};
 ghost use Rattle.el_sift.specs.within.Renewal as renewal;
 
 use el_chain::Touched;
@@ -117,14 +117,14 @@ pub fn renewed<G: Ledger>(
 ) -> Result<Option<Taken>, QueryFault>
     requires live { G.is_live ledger.old }
     ensures stays { (before chain : Chain) (all kept : List shape.Tx) (t : shape.Tx)
-        → renewal.IsNext before all kept gone.now t entry.now → IsOver table.now before all
+        → renewal.SiftsNext before all kept gone.now t entry.now → IsTableOver table.now before all
         → AreUnspent chain kept → renewal.Knows chain confirmed.now entry.now
         → G.stands ledger.old chain
         → IfOk result (λ r. IfSome r (λ taken. (may_join chain kept t ≡ true)
         × (taken.sources.items ≡ sources chain kept t.inputs)
         × (taken.flag ≡ flag kept t))) }
     ensures goes { (before chain : Chain) (all kept : List shape.Tx) (t : shape.Tx)
-        → renewal.IsNext before all kept gone.now t entry.now → IsOver table.now before all
+        → renewal.SiftsNext before all kept gone.now t entry.now → IsTableOver table.now before all
         → AreUnspent chain kept → renewal.Knows chain confirmed.now entry.now
         → G.stands ledger.old chain
         → IfOk result (λ r. IfNone r (may_join chain kept t ≡ false)) }

@@ -11,7 +11,7 @@ use Rattle.el_tables.proofs.OutEdits.{is_there, buried_is, spent_is}
 use Rattle.el_row_formats.specs.declared.out_row.OutRow.{OutRow}
 use Rattle.el_row_formats.specs.declared.out_row.State.TheVariants as out
 use Rattle.el_schema.specs.Rows.{out_fields, state_fields}
-use Rattle.el_spend.specs.Outputs.{output_at, coin_among}
+use Rattle.el_spend.specs.Outputs.{output_numbered, coin_among}
 use Rattle.el_spend.specs.declared.lookup.NamedOutput.{NamedOutput}
 use Rattle.el_schema.proofs.Rows.{found_at, found_within}
 
@@ -22,7 +22,7 @@ abbrev named_row : ℕ → ListedOut → NamedOutput
 named_row k x = record { number = k; row = out_fields x }
 
 -- what was found is the output of that number
-pub named_gives : (outs : List ListedOut) (r : Option ℕ) (x : NamedOutput) → Some x ≡ option_and_then (output_at outs) r
+pub named_gives : (outs : List ListedOut) (r : Option ℕ) (x : NamedOutput) → Some x ≡ option_and_then (output_numbered outs) r
     → (r ≡ Some x.number) × (Some x.row ≡ option_map out_fields (slice_get outs x.number))
 named_gives outs None x e = absurd cc
 named_gives outs (Some k) x e = by (slice_get outs k) refl e
@@ -36,7 +36,7 @@ named_gives outs (Some k) x e = by (slice_get outs k) refl e
         (ap Some number, ap Some row ∙ sym (ap (option_map out_fields) (ap (slice_get outs) (sym number) ∙ at)))
 
 -- where nothing was found there is no such output
-pub named_none : (outs : List ListedOut) (r : Option ℕ) (k : ℕ) → None ≡ option_and_then (output_at outs) r → r ≡ Some k → slice_get outs k ≡ None
+pub named_none : (outs : List ListedOut) (r : Option ℕ) (k : ℕ) → None ≡ option_and_then (output_numbered outs) r → r ≡ Some k → slice_get outs k ≡ None
 named_none outs None k e is = absurd cc
 named_none outs (Some j) k e is = let same : j ≡ k = cc in ap (slice_get outs) (sym same) ∙ by (slice_get outs j) e
   where
@@ -124,24 +124,24 @@ past_not_spent (suc k) (x ∷ xs) e = past_not_spent k xs e
 
 -- the coin by its number
 abbrev pub coin_by : List ListedOut → Option ℕ → Option NamedOutput
-coin_by outs names = option_and_then (output_at outs) (option_and_then (if_unspent outs) names)
+coin_by outs names = option_and_then (output_numbered outs) (option_and_then (if_unspent outs) names)
 
 -- an output that is unspent is the coin, another is none
-pub coin_here : (outs : List ListedOut) (names : Option ℕ) (x : NamedOutput) → Some x ≡ option_and_then (output_at outs) names → x.row.state ≡ out.Unspent → Some x ≡ coin_by outs names
+pub coin_here : (outs : List ListedOut) (names : Option ℕ) (x : NamedOutput) → Some x ≡ option_and_then (output_numbered outs) names → x.row.state ≡ out.Unspent → Some x ≡ coin_by outs names
 coin_here outs names x e is =
     let found = named_gives outs names x e in
     let there = row_unspent outs x.number x.row found.1 is in
     let same : option_and_then (if_unspent outs) names ≡ names = ap (option_and_then (if_unspent outs)) found.0 ∙ (rw there refl) ∙ sym found.0 in
-    e ∙ ap (option_and_then (output_at outs)) (sym same)
+    e ∙ ap (option_and_then (output_numbered outs)) (sym same)
 
-pub coin_gone_here : (outs : List ListedOut) (names : Option ℕ) (x : NamedOutput) → Some x ≡ option_and_then (output_at outs) names → x.row.state ≢ out.Unspent → None ≡ coin_by outs names
+pub coin_gone_here : (outs : List ListedOut) (names : Option ℕ) (x : NamedOutput) → Some x ≡ option_and_then (output_numbered outs) names → x.row.state ≢ out.Unspent → None ≡ coin_by outs names
 coin_gone_here outs names x e isnt =
     let found = named_gives outs names x e in
     let gone = row_not_unspent outs x.number x.row found.1 isnt in
     let none : option_and_then (if_unspent outs) names ≡ None = ap (option_and_then (if_unspent outs)) found.0 ∙ rw gone refl in
-    ap (option_and_then (output_at outs)) (sym none)
+    ap (option_and_then (output_numbered outs)) (sym none)
 
-pub coin_nowhere : (outs : List ListedOut) (names : Option ℕ) → None ≡ option_and_then (output_at outs) names → None ≡ coin_by outs names
+pub coin_nowhere : (outs : List ListedOut) (names : Option ℕ) → None ≡ option_and_then (output_numbered outs) names → None ≡ coin_by outs names
 coin_nowhere outs None e = refl
 coin_nowhere outs (Some k) e = elim (cases_Bool (unspent_at k outs)) [
   | inl y ↦ absurd (unspent_there k outs y (named_none outs (Some k) k e refl))

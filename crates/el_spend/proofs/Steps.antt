@@ -9,7 +9,7 @@ use Rattle.el_tx.specs.declared.types.Outpoint.{Outpoint}
 use Rattle.el_tables.specs.ChainLists.{ListedBlock}
 use Rattle.el_tables.specs.Disconnecting.{but_last, last, buried_at, unbury, spent_at, give_back, unspend, take_back_output}
 use Rattle.el_tables.specs.Edits.{no_out, no_row, row_of, out_row, more, less, less_at, coin_gone, coin_back, buried, new_out, out_left}
-use Rattle.el_tables.specs.Lists.{State, ListedOut, Lists, unspent_at, with_state, script_at, coin_number, output_number, txid_at, replaced, bury, add_output, spend, spend_output, held, balance_of}
+use Rattle.el_tables.specs.Lists.{State, ListedOut, Lists, unspent_at, with_state, script_at, coin_number, output_number, txid_at, replaced, bury, add_output, spend_outpoint, spend_output, held, balance_of}
 use Rattle.el_tables.specs.Lists.State.{Unspent, Spent, Buried}
 use Rattle.el_tables.specs.Tables as typed
 use Rattle.el_tables.specs.Tables.{HeadCounts, tables_of, rows_from, script_row}
@@ -127,15 +127,15 @@ back_fits counts bs l k row is gone fit =
 -- 4. `spend`
 
 pub spent_hold : (counts : HeadCounts) (bs : List ListedBlock) (l : Lists) (new : held_tables.Tables) (o : Outpoint) (by k : ℕ) → coin_number o l.txs l.outs ≡ Some k → unspent_at k l.outs ≡ true
-    → Encode new (coin_gone (Spent by) k (in_appended k (tables_of counts bs l))) → Hold counts bs (unwrap_or (spend o by l) l) new
+    → Encode new (coin_gone (Spent by) k (in_appended k (tables_of counts bs l))) → Hold counts bs (unwrap_or (spend_outpoint o by l) l) new
 spent_hold counts bs l new o by k found there enc =
-    let step : unwrap_or (spend o by l) l ≡ spend_output by k l = ap (λ (r : Option ℕ). unwrap_or (option_map (λ (j : ℕ). spend_output by j l) r) l) found in
+    let step : unwrap_or (spend_outpoint o by l) l ≡ spend_output by k l = ap (λ (r : Option ℕ). unwrap_or (option_map (λ (j : ℕ). spend_output by j l) r) l) found in
     subst (λ (m : Lists). Hold counts bs m new) (sym step) (subst (Encode new) (sym (take_out_rows counts bs l by k there)) enc)
 
 pub unspent_hold : (counts : HeadCounts) (bs : List ListedBlock) (l : Lists) (new : held_tables.Tables) (o : Outpoint) (by : ℕ) → coin_number o l.txs l.outs ≡ None
-    → Hold counts bs l new → Hold counts bs (unwrap_or (spend o by l) l) new
+    → Hold counts bs l new → Hold counts bs (unwrap_or (spend_outpoint o by l) l) new
 unspent_hold counts bs l new o by none hold =
-    let step : unwrap_or (spend o by l) l ≡ l = ap (λ (r : Option ℕ). unwrap_or (option_map (λ (j : ℕ). spend_output by j l) r) l) none in
+    let step : unwrap_or (spend_outpoint o by l) l ≡ l = ap (λ (r : Option ℕ). unwrap_or (option_map (λ (j : ℕ). spend_output by j l) r) l) none in
     subst (λ (m : Lists). Hold counts bs m new) (sym step) hold
 
 -- 5. `add_out`

@@ -9,20 +9,20 @@ use Rattle.el_schema.specs.Rows.{out_fields}
 use Rattle.el_spend.specs.declared.lookup.NamedOutput.{NamedOutput}
 
 -- the output of that number with its row, if there is one
-abbrev pub output_at : List ListedOut → ℕ → Option NamedOutput
-output_at outs k = option_map (λ x. record { number = k; row = out_fields x }) (slice_get outs k)
+abbrev pub output_numbered : List ListedOut → ℕ → Option NamedOutput
+output_numbered outs k = option_map (λ x. record { number = k; row = out_fields x }) (slice_get outs k)
 
 -- the output that an outpoint names among the first transactions, so many, with its row
 abbrev pub named_among : Outpoint → ℕ → Lists → Option NamedOutput
-named_among o count l = option_and_then (output_at l.outs) (output_number o (take count l.txs))
+named_among o count l = option_and_then (output_numbered l.outs) (output_number o (take count l.txs))
 
 -- the coin of the outpoint among them, with its row
 abbrev pub coin_among : Outpoint → ℕ → Lists → Option NamedOutput
-coin_among o count l = option_and_then (output_at l.outs) (coin_number o (take count l.txs) l.outs)
+coin_among o count l = option_and_then (output_numbered l.outs) (coin_number o (take count l.txs) l.outs)
 
 -- the coin that an output replaces, of the transaction of that number and with that index, with its row
 abbrev pub replaced_output : ℕ → ℕ → Lists → Option NamedOutput
-replaced_output tx index l = option_and_then (output_at l.outs) (replaced tx index l)
+replaced_output tx index l = option_and_then (output_numbered l.outs) (replaced tx index l)
 
 -- how many transactions have the txid
 abbrev pub txs_with : Hash32 → List ListedTx → ℕ

@@ -3,7 +3,7 @@ ghost use Rattle.std.specs.Prelude.{◌≡◌, ◌≢◌, ◌⊎◌, ◌<◌, �
 ghost use Rattle.std.specs.Option.{ForSome};
 ghost use Rattle.el_row_formats.specs.RowBytes.{number_limit, FitsOutRow};
 ghost use Rattle.el_row_formats.specs.Tables.{limit_of};
-ghost use Rattle.el_rows.specs.Transaction.{tables_in, reads_in, disk_failed, ReadsRows, EditsRows, EditsAlone};
+ghost use Rattle.el_rows.specs.Transaction.{with_edits, reads_in, disk_failed, ReadsRows, EditsRows, EditsAlone};
 ghost use Rattle.el_row_formats.specs.declared.table.Table.{Table};
 ghost use Rattle.el_tables.specs.ChainLists.{ListedBlock};
 ghost use Rattle.el_tables.specs.Edits as edit;
@@ -33,10 +33,10 @@ use el_tx::Outpoint;
 fn txid_made_before<R: Rows>(t: &mut Txn<'_, R>, tx: u64) -> Result<Option<Hash32>, DiskFailed>
     requires live { R.is_live t.old.rows.now }
     ensures txid { (counts : HeadCounts) (bs : List ListedBlock) (l : lists.Lists) → R.tells
-        → Hold counts bs l (tables_in t.old)
+        → Hold counts bs l (with_edits t.old)
         → IfOk result (λ r. ForSome r (λ id. id ≡ lists.txid_at tx l.txs)) }
     ensures new { (counts : HeadCounts) (bs : List ListedBlock) (l : lists.Lists) → R.tells
-        → Hold counts bs l (tables_in t.old)
+        → Hold counts bs l (with_edits t.old)
         → IfOk result (λ r. r ≡ None → lists.newest_tx (lists.txid_at tx l.txs) (take tx l.txs) ≡ None) }
     ensures read { ReadsRows disk_failed t.old t.new result }
     ensures rows { reads_in t.new ≤ reads_in t.old + 1 }
@@ -60,14 +60,14 @@ fn replaced<R: Rows>(
 ) -> Result<Option<NamedOutput>, DiskFailed>
     requires live { R.is_live t.old.rows.now }
     ensures replaced { (counts : HeadCounts) (bs : List ListedBlock) (l : lists.Lists) → R.tells
-        → Hold counts bs l (tables_in t.old) → 0 < counts.txs
+        → Hold counts bs l (with_edits t.old) → 0 < counts.txs
         → IfOk result (λ f. f ≡ replaced_output tx index l) }
     ensures rows { (counts : HeadCounts) (bs : List ListedBlock) (l : lists.Lists) → R.tells
-        → Hold counts bs l (tables_in t.old) → 0 < counts.txs
+        → Hold counts bs l (with_edits t.old) → 0 < counts.txs
         → reads_in t.new
         ≤ reads_in t.old + rows_to_find counts.txs (lists.txid_at tx l.txs) l + 1 }
-    ensures none { length (tables_in t.old Table.TxHeads) ≡ 0 → IfOk result (λ f. f ≡ None) }
-    ensures below { IfOk result (λ f. ForSome f (λ x. x.number < length (tables_in t.old Table.Outs))) }
+    ensures none { length (with_edits t.old Table.TxHeads) ≡ 0 → IfOk result (λ f. f ≡ None) }
+    ensures below { IfOk result (λ f. ForSome f (λ x. x.number < length (with_edits t.old Table.Outs))) }
     ensures fits { IfOk result (λ f. ForSome f (λ x. FitsOutRow x.row)) }
     ensures read { ReadsRows disk_failed t.old t.new result }
 {
@@ -86,14 +86,14 @@ fn append_output<R: Rows>(
 ) -> Result<u64, ConnectFault>
     requires tx { tx < number_limit }
     requires script { script < number_limit }
-    ensures appended { (tb : typed.Tables) → Encode (tables_in t.old) tb
-        → OnOk result (Encode (tables_in t.new) (out_appended (edit.new_out tx value script) tb)) }
-    ensures number { IfOk result (λ n. n ≡ length (tables_in t.old Table.Outs)) }
-    ensures others { (u : Table) → u ≢ Table.Outs → tables_in t.new u ≡ tables_in t.old u }
-    ensures longer { OnOk result (length (tables_in t.new Table.Outs)
-        ≡ length (tables_in t.old Table.Outs) + 1) }
-    ensures room { OnOk result (length (tables_in t.old Table.Outs) < limit_of Table.Outs) }
-    ensures fault { IfErr result (λ e. NotAdded Table.Outs (length (tables_in t.old Table.Outs)) e) }
+    ensures appended { (tb : typed.Tables) → Encode (with_edits t.old) tb
+        → OnOk result (Encode (with_edits t.new) (out_appended (edit.new_out tx value script) tb)) }
+    ensures number { IfOk result (λ n. n ≡ length (with_edits t.old Table.Outs)) }
+    ensures others { (u : Table) → u ≢ Table.Outs → with_edits t.new u ≡ with_edits t.old u }
+    ensures longer { OnOk result (length (with_edits t.new Table.Outs)
+        ≡ length (with_edits t.old Table.Outs) + 1) }
+    ensures room { OnOk result (length (with_edits t.old Table.Outs) < limit_of Table.Outs) }
+    ensures fault { IfErr result (λ e. NotAdded Table.Outs (length (with_edits t.old Table.Outs)) e) }
     ensures alone { EditsAlone t.old t.new }
 {
     let row = OutRow {
@@ -119,15 +119,15 @@ fn bury<R: Rows>(
 ) -> Result<(), ConnectFault>
     requires live { R.is_live t.old.rows.now }
     requires tx { tx < number_limit }
-    requires below { ForSome replaced (λ x. x.number < length (tables_in t.old Table.Outs)) }
+    requires below { ForSome replaced (λ x. x.number < length (with_edits t.old Table.Outs)) }
     requires fits { ForSome replaced (λ x. FitsOutRow x.row) }
-    ensures buried { (tb : typed.Tables) → R.tells → Encode (tables_in t.old) tb
+    ensures buried { (tb : typed.Tables) → R.tells → Encode (with_edits t.old) tb
         → ForSome replaced (λ x. IsOutRow tb x.number x.row)
-        → OnOk result (Encode (tables_in t.new) (edit.buried tx (option_map (λ x. x.number) replaced) tb)) }
+        → OnOk result (Encode (with_edits t.new) (edit.buried tx (option_map (λ x. x.number) replaced) tb)) }
     ensures others { (u : Table) → u ≢ Table.Outs → u ≢ Table.Scripts
-        → tables_in t.new u ≡ tables_in t.old u }
-    ensures outs_stay { length (tables_in t.new Table.Outs) ≡ length (tables_in t.old Table.Outs) }
-    ensures scripts_stay { length (tables_in t.new Table.Scripts) ≡ length (tables_in t.old Table.Scripts) }
+        → with_edits t.new u ≡ with_edits t.old u }
+    ensures outs_stay { length (with_edits t.new Table.Outs) ≡ length (with_edits t.old Table.Outs) }
+    ensures scripts_stay { length (with_edits t.new Table.Scripts) ≡ length (with_edits t.old Table.Scripts) }
     ensures fault { IfErr result (λ e. (e ≡ ConnectFault.DiskFailed) ⊎ (e ≡ ConnectFault.Memory)) }
     ensures edits { EditsRows ConnectFault.DiskFailed t.old t.new result }
     ensures rows { reads_in t.new ≤ reads_in t.old + 1 }
@@ -150,28 +150,28 @@ pub fn add_out<R: Rows>(
 ) -> Result<(), ConnectFault>
     requires live { R.is_live t.old.rows.now }
     requires tx { tx < number_limit }
-    requires script { script < length (tables_in t.old Table.Scripts) }
+    requires script { script < length (with_edits t.old Table.Scripts) }
     requires script_fits { script < number_limit }
     // It is the step of the lists, on all tables, where the balances after it fit.
     ensures lists { (counts : HeadCounts) (bs : List ListedBlock) (l : lists.Lists) → R.tells
-        → Hold counts bs l (tables_in t.old) → 0 < counts.txs
+        → Hold counts bs l (with_edits t.old) → 0 < counts.txs
         → BalancesFit (lists.add_output tx index value script l).outs
-        → OnOk result (Hold counts bs (lists.add_output tx index value script l) (tables_in t.new)) }
+        → OnOk result (Hold counts bs (lists.add_output tx index value script l) (with_edits t.new)) }
     // Beside the look-up it reads the transaction, the script of what it buries, and its own.
     ensures rows { (counts : HeadCounts) (bs : List ListedBlock) (l : lists.Lists) → R.tells
-        → Hold counts bs l (tables_in t.old) → 0 < counts.txs
+        → Hold counts bs l (with_edits t.old) → 0 < counts.txs
         → reads_in t.new
         ≤ reads_in t.old + rows_to_find counts.txs (lists.txid_at tx l.txs) l + 3 }
     // What follows holds over any rows.
-    ensures longer { OnOk result (length (tables_in t.new Table.Outs)
-        ≡ length (tables_in t.old Table.Outs) + 1) }
-    ensures scripts_stay { length (tables_in t.new Table.Scripts) ≡ length (tables_in t.old Table.Scripts) }
+    ensures longer { OnOk result (length (with_edits t.new Table.Outs)
+        ≡ length (with_edits t.old Table.Outs) + 1) }
+    ensures scripts_stay { length (with_edits t.new Table.Scripts) ≡ length (with_edits t.old Table.Scripts) }
     ensures others { (u : Table) → u ≢ Table.Outs → u ≢ Table.Scripts
-        → tables_in t.new u ≡ tables_in t.old u }
+        → with_edits t.new u ≡ with_edits t.old u }
     // `Full` comes exactly at the table's limit, unless the device fails.
-    ensures room { OnOk result (length (tables_in t.old Table.Outs) < limit_of Table.Outs) }
+    ensures room { OnOk result (length (with_edits t.old Table.Outs) < limit_of Table.Outs) }
     ensures fault { IfErr result (λ e. (e ≡ ConnectFault.DiskFailed)
-        ⊎ NotAdded Table.Outs (length (tables_in t.old Table.Outs)) e) }
+        ⊎ NotAdded Table.Outs (length (with_edits t.old Table.Outs)) e) }
     ensures edits { EditsRows ConnectFault.DiskFailed t.old t.new result }
 {
     let replaced = replaced(t, tx, index).map_err(|_| ConnectFault::DiskFailed)?;

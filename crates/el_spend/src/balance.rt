@@ -2,7 +2,7 @@
 ghost use Rattle.std.specs.Prelude.{◌≡◌, ◌≢◌, ◌⊎◌, ◌<◌, ◌≤◌, ◌+◌, ◌^◌, [], length, get_or, slice_set, OnOk, OnErr, IfErr};
 ghost use Rattle.el_rows.specs.Changes.{OnTable};
 ghost use Rattle.el_row_formats.specs.RowBytes.{script_row_bytes, FitsScriptRow};
-ghost use Rattle.el_rows.specs.Transaction.{tables_in, reads_in, EditsRows, EditsAlone};
+ghost use Rattle.el_rows.specs.Transaction.{with_edits, reads_in, EditsRows, EditsAlone};
 ghost use Rattle.el_row_formats.specs.declared.script_row.ScriptRow as shape;
 ghost use Rattle.el_row_formats.specs.declared.table.Table.{Table};
 ghost use Rattle.el_tables.specs.Edits as edit;
@@ -18,11 +18,11 @@ use el_schema::script_row;
 
 // Writes over the row of a script.
 fn put_script<R: Rows>(t: &mut Txn<'_, R>, n: u64, row: &ScriptRow) -> Result<(), OutOfMemory>
-    requires below { n < length (tables_in t.old Table.Scripts) }
+    requires below { n < length (with_edits t.old Table.Scripts) }
     requires fits { FitsScriptRow row.now }
-    ensures ok { OnOk result (OnTable (tables_in t.old) (tables_in t.new) Table.Scripts
-        (slice_set (tables_in t.old Table.Scripts) n (script_row_bytes row.now))) }
-    ensures err { OnErr result (tables_in t.new ≡ tables_in t.old) }
+    ensures ok { OnOk result (OnTable (with_edits t.old) (with_edits t.new) Table.Scripts
+        (slice_set (with_edits t.old Table.Scripts) n (script_row_bytes row.now))) }
+    ensures err { OnErr result (with_edits t.new ≡ with_edits t.old) }
     ensures alone { EditsAlone t.old t.new }
 {
     let mut bytes = [0; 64];
@@ -37,16 +37,16 @@ pub(crate) fn raise<R: Rows>(
     value: u64,
 ) -> Result<(), ConnectFault>
     requires live { R.is_live t.old.rows.now }
-    ensures raised { (tb : typed.Tables) → R.tells → Encode (tables_in t.old) tb
+    ensures raised { (tb : typed.Tables) → R.tells → Encode (with_edits t.old) tb
         → (edit.row_of script tb).balance + value < 2 ^ 64
-        → OnOk result (Encode (tables_in t.new) (balance_raised script value tb)) }
+        → OnOk result (Encode (with_edits t.new) (balance_raised script value tb)) }
     ensures bytes { (r : shape.ScriptRow) → R.tells → FitsScriptRow r
-        → script < length (tables_in t.old Table.Scripts)
-        → script_row_bytes r ≡ get_or (tables_in t.old Table.Scripts) script []
-        → OnOk result (tables_in t.new Table.Scripts
-        ≡ slice_set (tables_in t.old Table.Scripts) script (script_row_bytes (raised value r))) }
-    ensures others { (u : Table) → u ≢ Table.Scripts → tables_in t.new u ≡ tables_in t.old u }
-    ensures stay { length (tables_in t.new Table.Scripts) ≡ length (tables_in t.old Table.Scripts) }
+        → script < length (with_edits t.old Table.Scripts)
+        → script_row_bytes r ≡ get_or (with_edits t.old Table.Scripts) script []
+        → OnOk result (with_edits t.new Table.Scripts
+        ≡ slice_set (with_edits t.old Table.Scripts) script (script_row_bytes (raised value r))) }
+    ensures others { (u : Table) → u ≢ Table.Scripts → with_edits t.new u ≡ with_edits t.old u }
+    ensures stay { length (with_edits t.new Table.Scripts) ≡ length (with_edits t.old Table.Scripts) }
     ensures fault { IfErr result (λ e. (e ≡ ConnectFault.DiskFailed) ⊎ (e ≡ ConnectFault.Memory)) }
     ensures edits { EditsRows ConnectFault.DiskFailed t.old t.new result }
     ensures rows { reads_in t.new ≤ reads_in t.old + 1 }
@@ -70,15 +70,15 @@ pub(crate) fn lower<R: Rows>(
     value: u64,
 ) -> Result<(), ConnectFault>
     requires live { R.is_live t.old.rows.now }
-    ensures lowered { (tb : typed.Tables) → R.tells → Encode (tables_in t.old) tb
-        → OnOk result (Encode (tables_in t.new) (balance_lowered script value tb)) }
+    ensures lowered { (tb : typed.Tables) → R.tells → Encode (with_edits t.old) tb
+        → OnOk result (Encode (with_edits t.new) (balance_lowered script value tb)) }
     ensures bytes { (r : shape.ScriptRow) → R.tells → FitsScriptRow r
-        → script < length (tables_in t.old Table.Scripts)
-        → script_row_bytes r ≡ get_or (tables_in t.old Table.Scripts) script []
-        → OnOk result (tables_in t.new Table.Scripts
-        ≡ slice_set (tables_in t.old Table.Scripts) script (script_row_bytes (lowered value r))) }
-    ensures others { (u : Table) → u ≢ Table.Scripts → tables_in t.new u ≡ tables_in t.old u }
-    ensures stay { length (tables_in t.new Table.Scripts) ≡ length (tables_in t.old Table.Scripts) }
+        → script < length (with_edits t.old Table.Scripts)
+        → script_row_bytes r ≡ get_or (with_edits t.old Table.Scripts) script []
+        → OnOk result (with_edits t.new Table.Scripts
+        ≡ slice_set (with_edits t.old Table.Scripts) script (script_row_bytes (lowered value r))) }
+    ensures others { (u : Table) → u ≢ Table.Scripts → with_edits t.new u ≡ with_edits t.old u }
+    ensures stay { length (with_edits t.new Table.Scripts) ≡ length (with_edits t.old Table.Scripts) }
     ensures fault { IfErr result (λ e. (e ≡ ConnectFault.DiskFailed) ⊎ (e ≡ ConnectFault.Memory)) }
     ensures edits { EditsRows ConnectFault.DiskFailed t.old t.new result }
     ensures rows { reads_in t.new ≤ reads_in t.old + 1 }

@@ -2,7 +2,7 @@
 ghost use Rattle.std.specs.Prelude.{◌≡◌, ◌≢◌, ◌⊎◌, ◌<◌, ◌≤◌, ◌+◌, ◌^◌, length, slice_set, OnOk, OnErr, IfErr};
 ghost use Rattle.el_rows.specs.Changes.{OnTable};
 ghost use Rattle.el_row_formats.specs.RowBytes.{number_limit, out_row_bytes, state_by, FitsOutRow};
-ghost use Rattle.el_rows.specs.Transaction.{tables_in, reads_in, EditsRows, EditsAlone};
+ghost use Rattle.el_rows.specs.Transaction.{with_edits, reads_in, EditsRows, EditsAlone};
 ghost use Rattle.el_row_formats.specs.declared.table.Table.{Table};
 ghost use Rattle.el_tables.specs.Edits as edit;
 ghost use Rattle.el_tables.specs.Lists as lists;
@@ -23,15 +23,15 @@ fn put_state<R: Rows>(
     output: &NamedOutput,
     state: State,
 ) -> Result<(), OutOfMemory>
-    requires below { output.now.number < length (tables_in t.old Table.Outs) }
+    requires below { output.now.number < length (with_edits t.old Table.Outs) }
     requires fits { FitsOutRow output.now.row }
     requires by { state_by state < number_limit }
-    ensures changed { (tb : typed.Tables) (s : lists.State) → Encode (tables_in t.old) tb
+    ensures changed { (tb : typed.Tables) (s : lists.State) → Encode (with_edits t.old) tb
         → IsOutRow tb output.now.number output.now.row → state ≡ state_fields s
-        → OnOk result (Encode (tables_in t.new) (state_changed s output.now.number tb)) }
-    ensures others { (u : Table) → u ≢ Table.Outs → tables_in t.new u ≡ tables_in t.old u }
-    ensures stay { length (tables_in t.new Table.Outs) ≡ length (tables_in t.old Table.Outs) }
-    ensures err { OnErr result (tables_in t.new ≡ tables_in t.old) }
+        → OnOk result (Encode (with_edits t.new) (state_changed s output.now.number tb)) }
+    ensures others { (u : Table) → u ≢ Table.Outs → with_edits t.new u ≡ with_edits t.old u }
+    ensures stay { length (with_edits t.new Table.Outs) ≡ length (with_edits t.old Table.Outs) }
+    ensures err { OnErr result (with_edits t.new ≡ with_edits t.old) }
     ensures alone { EditsAlone t.old t.new }
 {
     let changed = OutRow {
@@ -50,16 +50,16 @@ pub(crate) fn take_coin<R: Rows>(
     state: State,
 ) -> Result<(), ConnectFault>
     requires live { R.is_live t.old.rows.now }
-    requires below { coin.now.number < length (tables_in t.old Table.Outs) }
+    requires below { coin.now.number < length (with_edits t.old Table.Outs) }
     requires fits { FitsOutRow coin.now.row }
     requires by { state_by state < number_limit }
-    ensures taken { (tb : typed.Tables) (s : lists.State) → R.tells → Encode (tables_in t.old) tb
+    ensures taken { (tb : typed.Tables) (s : lists.State) → R.tells → Encode (with_edits t.old) tb
         → IsOutRow tb coin.now.number coin.now.row → state ≡ state_fields s
-        → OnOk result (Encode (tables_in t.new) (edit.coin_gone s coin.now.number tb)) }
+        → OnOk result (Encode (with_edits t.new) (edit.coin_gone s coin.now.number tb)) }
     ensures others { (u : Table) → u ≢ Table.Outs → u ≢ Table.Scripts
-        → tables_in t.new u ≡ tables_in t.old u }
-    ensures outs_stay { length (tables_in t.new Table.Outs) ≡ length (tables_in t.old Table.Outs) }
-    ensures scripts_stay { length (tables_in t.new Table.Scripts) ≡ length (tables_in t.old Table.Scripts) }
+        → with_edits t.new u ≡ with_edits t.old u }
+    ensures outs_stay { length (with_edits t.new Table.Outs) ≡ length (with_edits t.old Table.Outs) }
+    ensures scripts_stay { length (with_edits t.new Table.Scripts) ≡ length (with_edits t.old Table.Scripts) }
     ensures fault { IfErr result (λ e. (e ≡ ConnectFault.DiskFailed) ⊎ (e ≡ ConnectFault.Memory)) }
     ensures edits { EditsRows ConnectFault.DiskFailed t.old t.new result }
     ensures rows { reads_in t.new ≤ reads_in t.old + 1 }
@@ -74,16 +74,16 @@ pub(crate) fn give_back<R: Rows>(
     output: &NamedOutput,
 ) -> Result<(), ConnectFault>
     requires live { R.is_live t.old.rows.now }
-    requires below { output.now.number < length (tables_in t.old Table.Outs) }
+    requires below { output.now.number < length (with_edits t.old Table.Outs) }
     requires fits { FitsOutRow output.now.row }
-    ensures given { (tb : typed.Tables) → R.tells → Encode (tables_in t.old) tb
+    ensures given { (tb : typed.Tables) → R.tells → Encode (with_edits t.old) tb
         → IsOutRow tb output.now.number output.now.row
         → (edit.row_of output.now.row.script tb).balance + output.now.row.value < 2 ^ 64
-        → OnOk result (Encode (tables_in t.new) (edit.coin_back output.now.number tb)) }
+        → OnOk result (Encode (with_edits t.new) (edit.coin_back output.now.number tb)) }
     ensures others { (u : Table) → u ≢ Table.Outs → u ≢ Table.Scripts
-        → tables_in t.new u ≡ tables_in t.old u }
-    ensures outs_stay { length (tables_in t.new Table.Outs) ≡ length (tables_in t.old Table.Outs) }
-    ensures scripts_stay { length (tables_in t.new Table.Scripts) ≡ length (tables_in t.old Table.Scripts) }
+        → with_edits t.new u ≡ with_edits t.old u }
+    ensures outs_stay { length (with_edits t.new Table.Outs) ≡ length (with_edits t.old Table.Outs) }
+    ensures scripts_stay { length (with_edits t.new Table.Scripts) ≡ length (with_edits t.old Table.Scripts) }
     ensures fault { IfErr result (λ e. (e ≡ ConnectFault.DiskFailed) ⊎ (e ≡ ConnectFault.Memory)) }
     ensures edits { EditsRows ConnectFault.DiskFailed t.old t.new result }
     ensures rows { reads_in t.new ≤ reads_in t.old + 1 }

@@ -3,7 +3,7 @@ ghost use Rattle.std.specs.Prelude.{◌≡◌, ◌<◌, ◌≤◌, ◌+◌, ◌^
 ghost use Rattle.std.specs.Option.{ForSome};
 ghost use Rattle.el_row_formats.specs.RowBytes.{FitsOutRow, ReadsAsOut};
 ghost use Rattle.el_row_formats.specs.Tables.{limit_of};
-ghost use Rattle.el_rows.specs.Transaction.{tables_in, reads_in, disk_failed, ReadsRows};
+ghost use Rattle.el_rows.specs.Transaction.{with_edits, reads_in, disk_failed, ReadsRows};
 ghost use Rattle.el_row_formats.specs.declared.table.Table.{Table};
 ghost use Rattle.el_tables.specs.ChainLists.{ListedBlock};
 ghost use Rattle.el_tables.specs.Lists as lists;
@@ -11,7 +11,7 @@ ghost use Rattle.el_tables.specs.Tables as typed;
 ghost use Rattle.el_tables.specs.Tables.{HeadCounts};
 ghost use Rattle.el_buckets.specs.Buckets.{bucket_size};
 ghost use Rattle.el_schema.specs.Rows.{Encode, Hold};
-ghost use Rattle.el_spend.specs.Outputs.{named_among, output_at, txs_with, rows_to_find, coin_among};
+ghost use Rattle.el_spend.specs.Outputs.{named_among, output_numbered, txs_with, rows_to_find, coin_among};
 
 use el_base::Hash32;
 use el_buckets::if_below;
@@ -41,18 +41,18 @@ pub fn named_output<R: Rows>(
 ) -> Result<Option<NamedOutput>, DiskFailed>
     requires live { R.is_live t.old.rows.now }
     ensures named { (counts : HeadCounts) (bs : List ListedBlock) (l : lists.Lists) → R.tells
-        → Hold counts bs l (tables_in t.old) → 0 < counts.txs
+        → Hold counts bs l (with_edits t.old) → 0 < counts.txs
         → IfOk result (λ f. f ≡ named_among o.now below l) }
     // It reads one head, transactions in the txid's bucket, then those with the txid, and the output.
     ensures rows { (counts : HeadCounts) (bs : List ListedBlock) (l : lists.Lists) → R.tells
-        → Hold counts bs l (tables_in t.old) → 0 < counts.txs
+        → Hold counts bs l (with_edits t.old) → 0 < counts.txs
         → reads_in t.new ≤ reads_in t.old + rows_to_find counts.txs o.now.txid l }
     // What follows holds over any rows. A state above 2 reads as buried.
-    ensures none { length (tables_in t.old Table.TxHeads) ≡ 0 → IfOk result (λ f. f ≡ None) }
-    ensures below { IfOk result (λ f. ForSome f (λ x. x.number < length (tables_in t.old Table.Outs))) }
+    ensures none { length (with_edits t.old Table.TxHeads) ≡ 0 → IfOk result (λ f. f ≡ None) }
+    ensures below { IfOk result (λ f. ForSome f (λ x. x.number < length (with_edits t.old Table.Outs))) }
     ensures limit { IfOk result (λ f. ForSome f (λ x. x.number < limit_of Table.Outs)) }
     ensures row { R.tells → IfOk result
-        (λ f. ForSome f (λ x. ReadsAsOut (get_or (tables_in t.old Table.Outs) x.number []) x.row)) }
+        (λ f. ForSome f (λ x. ReadsAsOut (get_or (with_edits t.old Table.Outs) x.number []) x.row)) }
     ensures fits { IfOk result (λ f. ForSome f (λ x. FitsOutRow x.row)) }
     ensures read { ReadsRows disk_failed t.old t.new result }
 {
@@ -68,16 +68,16 @@ pub(crate) fn named_at<R: Rows>(
 ) -> Result<Option<NamedOutput>, DiskFailed>
     requires live { R.is_live t.old.rows.now }
     ensures named { (counts : HeadCounts) (bs : List ListedBlock) (l : lists.Lists) → R.tells
-        → Hold counts bs l (tables_in t.old) → 0 < counts.txs
+        → Hold counts bs l (with_edits t.old) → 0 < counts.txs
         → IfOk result (λ f. f ≡ named_among (record { txid = txid.now; index = index }) below l) }
     ensures rows { (counts : HeadCounts) (bs : List ListedBlock) (l : lists.Lists) → R.tells
-        → Hold counts bs l (tables_in t.old) → 0 < counts.txs
+        → Hold counts bs l (with_edits t.old) → 0 < counts.txs
         → reads_in t.new ≤ reads_in t.old + rows_to_find counts.txs txid.now l }
-    ensures none { length (tables_in t.old Table.TxHeads) ≡ 0 → IfOk result (λ f. f ≡ None) }
-    ensures below { IfOk result (λ f. ForSome f (λ x. x.number < length (tables_in t.old Table.Outs))) }
+    ensures none { length (with_edits t.old Table.TxHeads) ≡ 0 → IfOk result (λ f. f ≡ None) }
+    ensures below { IfOk result (λ f. ForSome f (λ x. x.number < length (with_edits t.old Table.Outs))) }
     ensures limit { IfOk result (λ f. ForSome f (λ x. x.number < limit_of Table.Outs)) }
     ensures row { R.tells → IfOk result
-        (λ f. ForSome f (λ x. ReadsAsOut (get_or (tables_in t.old Table.Outs) x.number []) x.row)) }
+        (λ f. ForSome f (λ x. ReadsAsOut (get_or (with_edits t.old Table.Outs) x.number []) x.row)) }
     ensures fits { IfOk result (λ f. ForSome f (λ x. FitsOutRow x.row)) }
     ensures read { ReadsRows disk_failed t.old t.new result }
 {
@@ -90,12 +90,12 @@ pub(crate) fn named_at<R: Rows>(
 // The output of that number, which may be any, with its row, and none where there is no such output.
 fn output_below<R: Rows>(t: &mut Txn<'_, R>, k: u128) -> Result<Option<NamedOutput>, DiskFailed>
     requires live { R.is_live t.old.rows.now }
-    ensures found { (tb : typed.Tables) → R.tells → Encode (tables_in t.old) tb
-        → IfOk result (λ f. f ≡ output_at tb.outs k) }
-    ensures below { IfOk result (λ f. ForSome f (λ x. x.number < length (tables_in t.old Table.Outs))) }
+    ensures found { (tb : typed.Tables) → R.tells → Encode (with_edits t.old) tb
+        → IfOk result (λ f. f ≡ output_numbered tb.outs k) }
+    ensures below { IfOk result (λ f. ForSome f (λ x. x.number < length (with_edits t.old Table.Outs))) }
     ensures limit { IfOk result (λ f. ForSome f (λ x. x.number < limit_of Table.Outs)) }
     ensures row { R.tells → IfOk result
-        (λ f. ForSome f (λ x. ReadsAsOut (get_or (tables_in t.old Table.Outs) x.number []) x.row)) }
+        (λ f. ForSome f (λ x. ReadsAsOut (get_or (with_edits t.old Table.Outs) x.number []) x.row)) }
     ensures fits { IfOk result (λ f. ForSome f (λ x. FitsOutRow x.row)) }
     ensures read { ReadsRows disk_failed t.old t.new result }
     ensures rows { reads_in t.new ≤ reads_in t.old + 1 }
@@ -113,12 +113,12 @@ pub(crate) fn found_output<R: Rows>(
     k: u64,
 ) -> Result<Option<NamedOutput>, DiskFailed>
     requires live { R.is_live t.old.rows.now }
-    ensures found { (tb : typed.Tables) → R.tells → Encode (tables_in t.old) tb
-        → IfOk result (λ f. f ≡ output_at tb.outs k) }
-    ensures below { IfOk result (λ f. ForSome f (λ x. x.number < length (tables_in t.old Table.Outs))) }
+    ensures found { (tb : typed.Tables) → R.tells → Encode (with_edits t.old) tb
+        → IfOk result (λ f. f ≡ output_numbered tb.outs k) }
+    ensures below { IfOk result (λ f. ForSome f (λ x. x.number < length (with_edits t.old Table.Outs))) }
     ensures limit { IfOk result (λ f. ForSome f (λ x. x.number < limit_of Table.Outs)) }
     ensures row { R.tells → IfOk result
-        (λ f. ForSome f (λ x. ReadsAsOut (get_or (tables_in t.old Table.Outs) x.number []) x.row)) }
+        (λ f. ForSome f (λ x. ReadsAsOut (get_or (with_edits t.old Table.Outs) x.number []) x.row)) }
     ensures fits { IfOk result (λ f. ForSome f (λ x. FitsOutRow x.row)) }
     ensures read { ReadsRows disk_failed t.old t.new result }
     ensures rows { reads_in t.new ≤ reads_in t.old + 1 }
@@ -140,14 +140,14 @@ fn output_number<R: Rows>(
 ) -> Result<Option<u128>, DiskFailed>
     requires live { R.is_live t.old.rows.now }
     ensures number { (counts : HeadCounts) (bs : List ListedBlock) (l : lists.Lists) → R.tells
-        → Hold counts bs l (tables_in t.old) → 0 < counts.txs
+        → Hold counts bs l (with_edits t.old) → 0 < counts.txs
         → IfOk result (λ k. k
         ≡ lists.output_number (record { txid = txid.now; index = index }) (take below l.txs)) }
     ensures rows { (counts : HeadCounts) (bs : List ListedBlock) (l : lists.Lists) → R.tells
-        → Hold counts bs l (tables_in t.old) → 0 < counts.txs
+        → Hold counts bs l (with_edits t.old) → 0 < counts.txs
         → reads_in t.new ≤ reads_in t.old + (1 + bucket_size counts.txs txid.now
         (map (λ (x : lists.ListedTx). x.txid) l.txs) + txs_with txid.now l.txs) }
-    ensures none { length (tables_in t.old Table.TxHeads) ≡ 0 → IfOk result (λ k. k ≡ None) }
+    ensures none { length (with_edits t.old Table.TxHeads) ≡ 0 → IfOk result (λ k. k ≡ None) }
     ensures read { ReadsRows disk_failed t.old t.new result }
 {
     let mut link = newest(t, txid)?;
@@ -173,13 +173,13 @@ pub(crate) fn coin<R: Rows>(
 ) -> Result<Option<NamedOutput>, DiskFailed>
     requires live { R.is_live t.old.rows.now }
     ensures coin { (counts : HeadCounts) (bs : List ListedBlock) (l : lists.Lists) → R.tells
-        → Hold counts bs l (tables_in t.old) → 0 < counts.txs
+        → Hold counts bs l (with_edits t.old) → 0 < counts.txs
         → IfOk result (λ f. f ≡ coin_among o.now below l) }
     ensures rows { (counts : HeadCounts) (bs : List ListedBlock) (l : lists.Lists) → R.tells
-        → Hold counts bs l (tables_in t.old) → 0 < counts.txs
+        → Hold counts bs l (with_edits t.old) → 0 < counts.txs
         → reads_in t.new ≤ reads_in t.old + rows_to_find counts.txs o.now.txid l }
-    ensures none { length (tables_in t.old Table.TxHeads) ≡ 0 → IfOk result (λ f. f ≡ None) }
-    ensures below { IfOk result (λ f. ForSome f (λ x. x.number < length (tables_in t.old Table.Outs))) }
+    ensures none { length (with_edits t.old Table.TxHeads) ≡ 0 → IfOk result (λ f. f ≡ None) }
+    ensures below { IfOk result (λ f. ForSome f (λ x. x.number < length (with_edits t.old Table.Outs))) }
     ensures limit { IfOk result (λ f. ForSome f (λ x. x.number < limit_of Table.Outs)) }
     ensures fits { IfOk result (λ f. ForSome f (λ x. FitsOutRow x.row)) }
     ensures read { ReadsRows disk_failed t.old t.new result }

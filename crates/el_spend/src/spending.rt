@@ -2,7 +2,7 @@
 ghost use Rattle.std.specs.Prelude.{◌≡◌, ◌≢◌, ◌⊎◌, ◌<◌, ◌≤◌, ◌+◌, ℕ, List, length, OnOk, IfOk, IfErr, IsSome, None, unwrap_or};
 ghost use Rattle.std.specs.Option.{ForSome};
 ghost use Rattle.el_row_formats.specs.Tables.{limit_of};
-ghost use Rattle.el_rows.specs.Transaction.{tables_in, reads_in, EditsRows, EditsAlone};
+ghost use Rattle.el_rows.specs.Transaction.{with_edits, reads_in, EditsRows, EditsAlone};
 ghost use Rattle.el_row_formats.specs.declared.table.Table.{Table};
 ghost use Rattle.el_row_formats.specs.RowBytes.{number_limit};
 ghost use Rattle.el_tables.specs.ChainLists.{ListedBlock};
@@ -25,14 +25,14 @@ use el_tx::Outpoint;
 // Adds an input that spends the output of that number, and answers the input's number.
 fn append_input<R: Rows>(t: &mut Txn<'_, R>, k: u64) -> Result<u64, ConnectFault>
     requires fits { k < number_limit }
-    ensures appended { (tb : typed.Tables) → Encode (tables_in t.old) tb
-        → OnOk result (Encode (tables_in t.new) (in_appended k tb)) }
-    ensures number { IfOk result (λ n. n ≡ length (tables_in t.old Table.Ins)) }
-    ensures others { (u : Table) → u ≢ Table.Ins → tables_in t.new u ≡ tables_in t.old u }
-    ensures longer { OnOk result (length (tables_in t.new Table.Ins)
-        ≡ length (tables_in t.old Table.Ins) + 1) }
-    ensures room { OnOk result (length (tables_in t.old Table.Ins) < limit_of Table.Ins) }
-    ensures fault { IfErr result (λ e. NotAdded Table.Ins (length (tables_in t.old Table.Ins)) e) }
+    ensures appended { (tb : typed.Tables) → Encode (with_edits t.old) tb
+        → OnOk result (Encode (with_edits t.new) (in_appended k tb)) }
+    ensures number { IfOk result (λ n. n ≡ length (with_edits t.old Table.Ins)) }
+    ensures others { (u : Table) → u ≢ Table.Ins → with_edits t.new u ≡ with_edits t.old u }
+    ensures longer { OnOk result (length (with_edits t.new Table.Ins)
+        ≡ length (with_edits t.old Table.Ins) + 1) }
+    ensures room { OnOk result (length (with_edits t.old Table.Ins) < limit_of Table.Ins) }
+    ensures fault { IfErr result (λ e. NotAdded Table.Ins (length (with_edits t.old Table.Ins)) e) }
     ensures alone { EditsAlone t.old t.new }
 {
     let mut bytes = [0; 8];
@@ -55,30 +55,30 @@ pub fn spend<R: Rows>(
     requires live { R.is_live t.old.rows.now }
     requires by { by < number_limit }
     ensures coin { (counts : HeadCounts) (bs : List ListedBlock) (l : lists.Lists) → R.tells
-        → Hold counts bs l (tables_in t.old) → 0 < counts.txs
+        → Hold counts bs l (with_edits t.old) → 0 < counts.txs
         → IfOk result (λ k. k ≡ lists.coin_number o.now l.txs l.outs) }
     // It is the step of the lists, on all tables.
     ensures lists { (counts : HeadCounts) (bs : List ListedBlock) (l : lists.Lists) → R.tells
-        → Hold counts bs l (tables_in t.old) → 0 < counts.txs
-        → OnOk result (Hold counts bs (unwrap_or (lists.spend o.now by l) l) (tables_in t.new)) }
+        → Hold counts bs l (with_edits t.old) → 0 < counts.txs
+        → OnOk result (Hold counts bs (unwrap_or (lists.spend_outpoint o.now by l) l) (with_edits t.new)) }
     // Beside the look-up it reads the coin's script.
     ensures rows { (counts : HeadCounts) (bs : List ListedBlock) (l : lists.Lists) → R.tells
-        → Hold counts bs l (tables_in t.old) → 0 < counts.txs
+        → Hold counts bs l (with_edits t.old) → 0 < counts.txs
         → reads_in t.new ≤ reads_in t.old + rows_to_find counts.txs o.now.txid l + 1 }
     // What follows holds over any rows.
-    ensures none { length (tables_in t.old Table.TxHeads) ≡ 0 → IfOk result (λ k. k ≡ None) }
-    ensures unchanged { IfOk result (λ k. k ≡ None → tables_in t.new ≡ tables_in t.old) }
-    ensures below { IfOk result (λ k. ForSome k (λ n. n < length (tables_in t.old Table.Outs))) }
+    ensures none { length (with_edits t.old Table.TxHeads) ≡ 0 → IfOk result (λ k. k ≡ None) }
+    ensures unchanged { IfOk result (λ k. k ≡ None → with_edits t.new ≡ with_edits t.old) }
+    ensures below { IfOk result (λ k. ForSome k (λ n. n < length (with_edits t.old Table.Outs))) }
     ensures longer { IfOk result (λ k. IsSome k
-        → length (tables_in t.new Table.Ins) ≡ length (tables_in t.old Table.Ins) + 1) }
-    ensures outs_stay { length (tables_in t.new Table.Outs) ≡ length (tables_in t.old Table.Outs) }
-    ensures scripts_stay { length (tables_in t.new Table.Scripts) ≡ length (tables_in t.old Table.Scripts) }
+        → length (with_edits t.new Table.Ins) ≡ length (with_edits t.old Table.Ins) + 1) }
+    ensures outs_stay { length (with_edits t.new Table.Outs) ≡ length (with_edits t.old Table.Outs) }
+    ensures scripts_stay { length (with_edits t.new Table.Scripts) ≡ length (with_edits t.old Table.Scripts) }
     ensures others { (u : Table) → u ≢ Table.Outs → u ≢ Table.Ins → u ≢ Table.Scripts
-        → tables_in t.new u ≡ tables_in t.old u }
+        → with_edits t.new u ≡ with_edits t.old u }
     // `Full` comes exactly where a coin is there and the table is at its limit, unless the device fails.
-    ensures room { IfOk result (λ k. IsSome k → length (tables_in t.old Table.Ins) < limit_of Table.Ins) }
+    ensures room { IfOk result (λ k. IsSome k → length (with_edits t.old Table.Ins) < limit_of Table.Ins) }
     ensures fault { IfErr result (λ e. (e ≡ ConnectFault.DiskFailed)
-        ⊎ NotAdded Table.Ins (length (tables_in t.old Table.Ins)) e) }
+        ⊎ NotAdded Table.Ins (length (with_edits t.old Table.Ins)) e) }
     ensures edits { EditsRows ConnectFault.DiskFailed t.old t.new result }
 {
     let below = t.count(Table::Txs);

@@ -2,7 +2,7 @@
 ghost use Rattle.std.specs.Prelude.{◌≡◌, ◌≢◌, ◌⊎◌, ◌<◌, ◌≤◌, ◌+◌, ◌-◌, ℕ, List, Some, length, OnOk, IfOk, IfErr};
 ghost use Rattle.std.specs.Option.{ForSome};
 ghost use Rattle.el_row_formats.specs.RowBytes.{number_limit, FitsOutRow};
-ghost use Rattle.el_rows.specs.Transaction.{tables_in, reads_in, disk_failed, ReadsRows, EditsRows};
+ghost use Rattle.el_rows.specs.Transaction.{with_edits, reads_in, disk_failed, ReadsRows, EditsRows};
 ghost use Rattle.el_row_formats.specs.declared.table.Table.{Table};
 ghost use Rattle.el_tables.specs.ChainLists.{ListedBlock};
 ghost use Rattle.el_tables.specs.Disconnecting as back;
@@ -12,7 +12,7 @@ ghost use Rattle.el_tables.specs.Tables as typed;
 ghost use Rattle.el_tables.specs.Tables.{HeadCounts};
 ghost use Rattle.el_schema.specs.Rows.{Encode, Hold, out_fields};
 ghost use Rattle.el_spend.specs.Outputs.{rows_to_find, named_among, BalancesFit};
-ghost use Rattle.el_spend.specs.within.Parts.{outpoint_at, unburied_lists, held_by, balance_lowered};
+ghost use Rattle.el_spend.specs.within.Parts.{outpoint_at, unburied_lists, value_if_unspent, balance_lowered};
 
 use crate::NamedOutput;
 use crate::balance::lower;
@@ -28,11 +28,11 @@ use el_schema::out_row;
 // If the output was unspent it leaves its script's balance.
 fn leave_balance<R: Rows>(t: &mut Txn<'_, R>, row: &OutRow) -> Result<(), ConnectFault>
     requires live { R.is_live t.old.rows.now }
-    ensures lowered { (tb : typed.Tables) (x : lists.ListedOut) → R.tells → Encode (tables_in t.old) tb
+    ensures lowered { (tb : typed.Tables) (x : lists.ListedOut) → R.tells → Encode (with_edits t.old) tb
         → row.now ≡ out_fields x
-        → OnOk result (Encode (tables_in t.new) (balance_lowered x.script (held_by x) tb)) }
-    ensures others { (u : Table) → u ≢ Table.Scripts → tables_in t.new u ≡ tables_in t.old u }
-    ensures stay { length (tables_in t.new Table.Scripts) ≡ length (tables_in t.old Table.Scripts) }
+        → OnOk result (Encode (with_edits t.new) (balance_lowered x.script (value_if_unspent x) tb)) }
+    ensures others { (u : Table) → u ≢ Table.Scripts → with_edits t.new u ≡ with_edits t.old u }
+    ensures stay { length (with_edits t.new Table.Scripts) ≡ length (with_edits t.old Table.Scripts) }
     ensures fault { IfErr result (λ e. (e ≡ ConnectFault.DiskFailed) ⊎ (e ≡ ConnectFault.Memory)) }
     ensures edits { EditsRows ConnectFault.DiskFailed t.old t.new result }
     ensures rows { reads_in t.new ≤ reads_in t.old + 1 }
@@ -47,13 +47,13 @@ fn leave_balance<R: Rows>(t: &mut Txn<'_, R>, row: &OutRow) -> Result<(), Connec
 // balance.
 fn drop_output<R: Rows>(t: &mut Txn<'_, R>, last: u64, row: &OutRow) -> Result<(), ConnectFault>
     requires live { R.is_live t.old.rows.now }
-    requires last { length (tables_in t.old Table.Outs) ≡ last + 1 }
-    ensures dropped { (tb : typed.Tables) (x : lists.ListedOut) → R.tells → Encode (tables_in t.old) tb
-        → row.now ≡ out_fields x → OnOk result (Encode (tables_in t.new) (edit.out_left x tb)) }
+    requires last { length (with_edits t.old Table.Outs) ≡ last + 1 }
+    ensures dropped { (tb : typed.Tables) (x : lists.ListedOut) → R.tells → Encode (with_edits t.old) tb
+        → row.now ≡ out_fields x → OnOk result (Encode (with_edits t.new) (edit.out_left x tb)) }
     ensures others { (u : Table) → u ≢ Table.Outs → u ≢ Table.Scripts
-        → tables_in t.new u ≡ tables_in t.old u }
-    ensures shorter { OnOk result (length (tables_in t.new Table.Outs) ≡ last) }
-    ensures scripts_stay { length (tables_in t.new Table.Scripts) ≡ length (tables_in t.old Table.Scripts) }
+        → with_edits t.new u ≡ with_edits t.old u }
+    ensures shorter { OnOk result (length (with_edits t.new Table.Outs) ≡ last) }
+    ensures scripts_stay { length (with_edits t.new Table.Scripts) ≡ length (with_edits t.old Table.Scripts) }
     ensures fault { IfErr result (λ e. (e ≡ ConnectFault.DiskFailed) ⊎ (e ≡ ConnectFault.Memory)) }
     ensures edits { EditsRows ConnectFault.DiskFailed t.old t.new result }
     ensures rows { reads_in t.new ≤ reads_in t.old + 1 }
@@ -73,13 +73,13 @@ fn named_before<R: Rows>(
     requires live { R.is_live t.old.rows.now }
     requires number { number < number_limit }
     ensures named { (counts : HeadCounts) (bs : List ListedBlock) (l : lists.Lists) → R.tells
-        → Hold counts bs l (tables_in t.old) → 0 < counts.txs
+        → Hold counts bs l (with_edits t.old) → 0 < counts.txs
         → IfOk result (λ f. f ≡ named_among (outpoint_at tx number l) tx l) }
     ensures rows { (counts : HeadCounts) (bs : List ListedBlock) (l : lists.Lists) → R.tells
-        → Hold counts bs l (tables_in t.old) → 0 < counts.txs
+        → Hold counts bs l (with_edits t.old) → 0 < counts.txs
         → reads_in t.new
         ≤ reads_in t.old + rows_to_find counts.txs (lists.txid_at tx l.txs) l + 1 }
-    ensures below { IfOk result (λ f. ForSome f (λ x. x.number < length (tables_in t.old Table.Outs))) }
+    ensures below { IfOk result (λ f. ForSome f (λ x. x.number < length (with_edits t.old Table.Outs))) }
     ensures fits { IfOk result (λ f. ForSome f (λ x. FitsOutRow x.row)) }
     ensures read { ReadsRows disk_failed t.old t.new result }
 {
@@ -93,16 +93,16 @@ fn unbury<R: Rows>(t: &mut Txn<'_, R>, tx: u64, number: u64) -> Result<(), Conne
     requires live { R.is_live t.old.rows.now }
     requires number { number < number_limit }
     ensures lists { (counts : HeadCounts) (bs : List ListedBlock) (l : lists.Lists) → R.tells
-        → Hold counts bs l (tables_in t.old) → 0 < counts.txs → BalancesFit (unburied_lists tx number l).outs
-        → OnOk result (Hold counts bs (unburied_lists tx number l) (tables_in t.new)) }
+        → Hold counts bs l (with_edits t.old) → 0 < counts.txs → BalancesFit (unburied_lists tx number l).outs
+        → OnOk result (Hold counts bs (unburied_lists tx number l) (with_edits t.new)) }
     ensures rows { (counts : HeadCounts) (bs : List ListedBlock) (l : lists.Lists) → R.tells
-        → Hold counts bs l (tables_in t.old) → 0 < counts.txs
+        → Hold counts bs l (with_edits t.old) → 0 < counts.txs
         → reads_in t.new
         ≤ reads_in t.old + rows_to_find counts.txs (lists.txid_at tx l.txs) l + 2 }
     ensures others { (u : Table) → u ≢ Table.Outs → u ≢ Table.Scripts
-        → tables_in t.new u ≡ tables_in t.old u }
-    ensures outs_stay { length (tables_in t.new Table.Outs) ≡ length (tables_in t.old Table.Outs) }
-    ensures scripts_stay { length (tables_in t.new Table.Scripts) ≡ length (tables_in t.old Table.Scripts) }
+        → with_edits t.new u ≡ with_edits t.old u }
+    ensures outs_stay { length (with_edits t.new Table.Outs) ≡ length (with_edits t.old Table.Outs) }
+    ensures scripts_stay { length (with_edits t.new Table.Scripts) ≡ length (with_edits t.old Table.Scripts) }
     ensures fault { IfErr result (λ e. (e ≡ ConnectFault.DiskFailed) ⊎ (e ≡ ConnectFault.Memory)) }
     ensures edits { EditsRows ConnectFault.DiskFailed t.old t.new result }
 {
@@ -127,22 +127,22 @@ pub fn take_back_out<R: Rows>(t: &mut Txn<'_, R>) -> Result<(), ConnectFault>
     requires live { R.is_live t.old.rows.now }
     // It is the step of the lists, on all tables, where the balances after it fit.
     ensures lists { (counts : HeadCounts) (bs : List ListedBlock) (l : lists.Lists) → R.tells
-        → Hold counts bs l (tables_in t.old) → 0 < counts.txs → BalancesFit (back.take_back_output l).outs
-        → OnOk result (Hold counts bs (back.take_back_output l) (tables_in t.new)) }
+        → Hold counts bs l (with_edits t.old) → 0 < counts.txs → BalancesFit (back.take_back_output l).outs
+        → OnOk result (Hold counts bs (back.take_back_output l) (with_edits t.new)) }
     // Beside the look-up it reads the output, its transaction and its script, and the script of what it
     // buried.
     ensures rows { (counts : HeadCounts) (bs : List ListedBlock) (l : lists.Lists) (x : lists.ListedOut) →
-        R.tells → Hold counts bs l (tables_in t.old) → 0 < counts.txs → back.last l.outs ≡ Some x
+        R.tells → Hold counts bs l (with_edits t.old) → 0 < counts.txs → back.last l.outs ≡ Some x
         → reads_in t.new
         ≤ reads_in t.old + rows_to_find counts.txs (lists.txid_at x.tx l.txs) l + 4 }
     // What follows holds over any rows.
-    ensures none { length (tables_in t.old Table.Outs) ≡ 0
-        → OnOk result (tables_in t.new ≡ tables_in t.old) }
-    ensures shorter { OnOk result (length (tables_in t.new Table.Outs)
-        ≡ length (tables_in t.old Table.Outs) - 1) }
-    ensures scripts_stay { length (tables_in t.new Table.Scripts) ≡ length (tables_in t.old Table.Scripts) }
+    ensures none { length (with_edits t.old Table.Outs) ≡ 0
+        → OnOk result (with_edits t.new ≡ with_edits t.old) }
+    ensures shorter { OnOk result (length (with_edits t.new Table.Outs)
+        ≡ length (with_edits t.old Table.Outs) - 1) }
+    ensures scripts_stay { length (with_edits t.new Table.Scripts) ≡ length (with_edits t.old Table.Scripts) }
     ensures others { (u : Table) → u ≢ Table.Outs → u ≢ Table.Scripts
-        → tables_in t.new u ≡ tables_in t.old u }
+        → with_edits t.new u ≡ with_edits t.old u }
     ensures fault { IfErr result (λ e. (e ≡ ConnectFault.DiskFailed) ⊎ (e ≡ ConnectFault.Memory)) }
     ensures edits { EditsRows ConnectFault.DiskFailed t.old t.new result }
 {

@@ -1,6 +1,6 @@
 // An input less.
 ghost use Rattle.std.specs.Prelude.{◌≡◌, ◌≢◌, ◌⊎◌, ◌<◌, ◌≤◌, ◌+◌, ◌-◌, ◌^◌, ℕ, List, Some, length, OnOk, IfErr};
-ghost use Rattle.el_rows.specs.Transaction.{tables_in, reads_in, EditsRows};
+ghost use Rattle.el_rows.specs.Transaction.{with_edits, reads_in, EditsRows};
 ghost use Rattle.el_row_formats.specs.declared.table.Table.{Table};
 ghost use Rattle.el_tables.specs.ChainLists.{ListedBlock};
 ghost use Rattle.el_tables.specs.Disconnecting as back;
@@ -21,12 +21,12 @@ use el_schema::in_row;
 fn give_back_spent<R: Rows>(t: &mut Txn<'_, R>, k: u64) -> Result<(), ConnectFault>
     requires live { R.is_live t.old.rows.now }
     ensures lists { (counts : HeadCounts) (bs : List ListedBlock) (l : lists.Lists) → R.tells
-        → Hold counts bs l (tables_in t.old) → BalancesFit (back.give_back (Some k) l.outs)
-        → OnOk result (Hold counts bs (spent_given_back k l) (tables_in t.new)) }
+        → Hold counts bs l (with_edits t.old) → BalancesFit (back.give_back (Some k) l.outs)
+        → OnOk result (Hold counts bs (spent_given_back k l) (with_edits t.new)) }
     ensures others { (u : Table) → u ≢ Table.Outs → u ≢ Table.Scripts
-        → tables_in t.new u ≡ tables_in t.old u }
-    ensures outs_stay { length (tables_in t.new Table.Outs) ≡ length (tables_in t.old Table.Outs) }
-    ensures scripts_stay { length (tables_in t.new Table.Scripts) ≡ length (tables_in t.old Table.Scripts) }
+        → with_edits t.new u ≡ with_edits t.old u }
+    ensures outs_stay { length (with_edits t.new Table.Outs) ≡ length (with_edits t.old Table.Outs) }
+    ensures scripts_stay { length (with_edits t.new Table.Scripts) ≡ length (with_edits t.old Table.Scripts) }
     ensures fault { IfErr result (λ e. (e ≡ ConnectFault.DiskFailed) ⊎ (e ≡ ConnectFault.Memory)) }
     ensures edits { EditsRows ConnectFault.DiskFailed t.old t.new result }
     ensures rows { reads_in t.new ≤ reads_in t.old + 2 }
@@ -48,17 +48,17 @@ pub fn unspend<R: Rows>(t: &mut Txn<'_, R>) -> Result<(), ConnectFault>
     requires live { R.is_live t.old.rows.now }
     // It is the step of the lists, on all tables, where the balances after it fit.
     ensures lists { (counts : HeadCounts) (bs : List ListedBlock) (l : lists.Lists) → R.tells
-        → Hold counts bs l (tables_in t.old) → BalancesFit (back.unspend l).outs
-        → OnOk result (Hold counts bs (back.unspend l) (tables_in t.new)) }
+        → Hold counts bs l (with_edits t.old) → BalancesFit (back.unspend l).outs
+        → OnOk result (Hold counts bs (back.unspend l) (with_edits t.new)) }
     // What follows holds over any rows.
-    ensures none { length (tables_in t.old Table.Ins) ≡ 0
-        → OnOk result (tables_in t.new ≡ tables_in t.old) }
-    ensures shorter { OnOk result (length (tables_in t.new Table.Ins)
-        ≡ length (tables_in t.old Table.Ins) - 1) }
-    ensures outs_stay { length (tables_in t.new Table.Outs) ≡ length (tables_in t.old Table.Outs) }
-    ensures scripts_stay { length (tables_in t.new Table.Scripts) ≡ length (tables_in t.old Table.Scripts) }
+    ensures none { length (with_edits t.old Table.Ins) ≡ 0
+        → OnOk result (with_edits t.new ≡ with_edits t.old) }
+    ensures shorter { OnOk result (length (with_edits t.new Table.Ins)
+        ≡ length (with_edits t.old Table.Ins) - 1) }
+    ensures outs_stay { length (with_edits t.new Table.Outs) ≡ length (with_edits t.old Table.Outs) }
+    ensures scripts_stay { length (with_edits t.new Table.Scripts) ≡ length (with_edits t.old Table.Scripts) }
     ensures others { (u : Table) → u ≢ Table.Outs → u ≢ Table.Ins → u ≢ Table.Scripts
-        → tables_in t.new u ≡ tables_in t.old u }
+        → with_edits t.new u ≡ with_edits t.old u }
     ensures fault { IfErr result (λ e. (e ≡ ConnectFault.DiskFailed) ⊎ (e ≡ ConnectFault.Memory)) }
     ensures edits { EditsRows ConnectFault.DiskFailed t.old t.new result }
     ensures rows { reads_in t.new ≤ reads_in t.old + 3 }

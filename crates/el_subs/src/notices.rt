@@ -9,7 +9,7 @@ ghost use Rattle.el_tx.specs.declared.types.Tx as shape;
 ghost use Rattle.el_chain.specs.Chains.{Chain};
 ghost use Rattle.el_json.specs.Lines.{IsPrintable};
 ghost use Rattle.el_model.specs.LedgerCalls.{Asked};
-ghost use Rattle.el_mempool.specs.Standing.{StandsFor};
+ghost use Rattle.el_mempool.specs.Standing.{KeptStandFor};
 ghost use Rattle.el_view.specs.Rows.{history_rows};
 ghost use Rattle.el_methods.specs.Results as defined;
 ghost use Rattle.el_subs.specs.Told.{status, OthersTold, cost_of};
@@ -126,11 +126,11 @@ pub fn notify<G: Ledger>(
 ) -> Result<Vec<Bytes>, QueryFault>
     requires live { G.is_live ledger.old }
     ensures told { (chain : Chain) (kept : List shape.Tx) → G.stands ledger.old chain
-        → StandsFor pool.now.entries chain kept
+        → KeptStandFor pool.now.entries chain kept
         → OthersTold (status chain kept) touched.now session.old.subs → IfOk result
         (λ lines. lines.items ≡ notices (status chain kept) before.now chain session.old) }
     ensures notified { (chain : Chain) (kept : List shape.Tx) → G.stands ledger.old chain
-        → StandsFor pool.now.entries chain kept
+        → KeptStandFor pool.now.entries chain kept
         → OthersTold (status chain kept) touched.now session.old.subs
         → OnOk result (session.new ≡ notified (status chain kept) session.old) }
     ensures rows { (chain : Chain) → G.stands ledger.old chain

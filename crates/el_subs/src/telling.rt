@@ -6,7 +6,7 @@ ghost use Rattle.el_outside.specs.Counts.{CountsOnly};
 ghost use Rattle.el_tx.specs.declared.types.Tx as shape;
 ghost use Rattle.el_chain.specs.Chains.{Chain};
 ghost use Rattle.el_model.specs.LedgerCalls.{Asked};
-ghost use Rattle.el_mempool.specs.Standing.{StandsFor};
+ghost use Rattle.el_mempool.specs.Standing.{KeptStandFor};
 ghost use Rattle.el_view.specs.Rows.{history_rows};
 ghost use Rattle.el_subs.specs.Told.{status, news, marked, OthersTold, cost_of};
 ghost use Rattle.el_subs.specs.within.Partly.{one_to, noted};
@@ -30,7 +30,7 @@ fn tell_one<G: Ledger>(
 ) -> Result<(), QueryFault>
     requires live { G.is_live ledger.old }
     ensures told { (chain : Chain) (kept : List shape.Tx) → G.stands ledger.old chain
-        → StandsFor pool.now.entries chain kept
+        → KeptStandFor pool.now.entries chain kept
         → OnOk result ((found.new.items ≡ found.old.items ++ news (status chain kept) (one_to s.now subs.old))
         × (subs.new ≡ noted (status chain kept) s.now subs.old)) }
     ensures rows { (chain : Chain) → G.stands ledger.old chain
@@ -67,10 +67,10 @@ pub fn tell<G: Ledger>(
 ) -> Result<Vec<(Hash32, Option<Hash32>)>, QueryFault>
     requires live { G.is_live ledger.old }
     ensures told { (chain : Chain) (kept : List shape.Tx) → G.stands ledger.old chain
-        → StandsFor pool.now.entries chain kept → OthersTold (status chain kept) touched.now subs.old
+        → KeptStandFor pool.now.entries chain kept → OthersTold (status chain kept) touched.now subs.old
         → IfOk result (λ found. found.items ≡ news (status chain kept) subs.old) }
     ensures marked { (chain : Chain) (kept : List shape.Tx) → G.stands ledger.old chain
-        → StandsFor pool.now.entries chain kept → OthersTold (status chain kept) touched.now subs.old
+        → KeptStandFor pool.now.entries chain kept → OthersTold (status chain kept) touched.now subs.old
         → OnOk result (subs.new ≡ marked (status chain kept) subs.old) }
     ensures rows { (chain : Chain) → G.stands ledger.old chain
         → G.reads ledger.new ≤ G.reads ledger.old

@@ -29,7 +29,7 @@ use Rattle.el_side.proofs.Settled.{not_both}
 use Rattle.el_side.specs.Side.{Side, IsSure, GoesAlong, Looks, Moving, Orders, OrdersLine, found_answer, found_after}
 use Rattle.el_model.proofs.LedgerMoves.{LeavesOwn, asked_then, moved_then}
 use Rattle.el_tx.specs.declared.types.Tx.{Tx}
-use Rattle.el_mempool.specs.Standing.{AreChanged, PoolState, StandsFor}
+use Rattle.el_mempool.specs.Standing.{AreChanged, PoolState, KeptStandFor}
 use Rattle.el_fees.specs.Tables.{IsTableOf}
 use Rattle.el_side.specs.declared.caches.Caches.{Caches}
 use Rattle.el_side.specs.declared.holdings.Holdings.{Holdings}
@@ -68,7 +68,7 @@ pub not_disk : (e : MoveFault) (answer : NodeAnswer) → SaysRefusal e answer �
 not_disk e answer says is = let h = rw is at says in h
 
 -- the set of a side that has left nothing to do stands over its chain
-pub stands_there : (holdings : Holdings) (caches : Caches) (side : Side) (start : Chain) → IsSure side → SetStands holdings caches side start → side.ahead ≡ [] → StandsFor holdings.pool.entries side.chain side.kept
+pub stands_there : (holdings : Holdings) (caches : Caches) (side : Side) (start : Chain) → IsSure side → SetStands holdings caches side start → side.ahead ≡ [] → KeptStandFor holdings.pool.entries side.chain side.kept
 stands_there holdings caches side start sure set still = rw (set.still still) at (set.stood sure)
 
 -- where chain and kept ones stay, nothing is touched

@@ -8,7 +8,7 @@ use Rattle.el_chain.specs.Chains.{Chain, tip, zero_hash}
 use Rattle.el_chain.specs.Headers.{AreLinked}
 use Rattle.el_chain.specs.Moves.{FitsChain, shorter, max_forward, last_hash}
 use Rattle.el_side.specs.Plans.{left_of}
-use Rattle.el_sync.specs.Steps.{named}
+use Rattle.el_sync.specs.Steps.{previous_hash}
 
 -- the first of linked nodes are linked
 pub linked_front : (n : ℕ) (before : Hash32) (ns : List Node) → AreLinked before ns → AreLinked before (take n ns)
@@ -41,11 +41,11 @@ passed_over path from n m inside is = elim (le_or m (length path - from)) [
 
 -- the blocks that are left are linked to the tip
 pub left_linked : (before : Hash32) (rest left : List Node) (tip : Option Hash32) → left ≡ left_of rest → AreLinked before rest
-    → ((take max_forward rest ≡ [] → ⊥) → tip ≡ Some (last_hash zero_hash (take max_forward rest))) → AreLinked (named tip) left
+    → ((take max_forward rest ≡ [] → ⊥) → tip ≡ Some (last_hash zero_hash (take max_forward rest))) → AreLinked (previous_hash tip) left
 left_linked before rest left tip is h last = rw is (linked_by before rest tip h last)
   where
     linked_by : (before : Hash32) (rest : List Node) (tip : Option Hash32) → AreLinked before rest
-        → ((take max_forward rest ≡ [] → ⊥) → tip ≡ Some (last_hash zero_hash (take max_forward rest))) → AreLinked (named tip) (left_of rest)
+        → ((take max_forward rest ≡ [] → ⊥) → tip ≡ Some (last_hash zero_hash (take max_forward rest))) → AreLinked (previous_hash tip) (left_of rest)
     linked_by before [] tip h is = tt
     linked_by before (n ∷ ns) tip h is =
         let t = is (λ e. let bad = e in cc) in

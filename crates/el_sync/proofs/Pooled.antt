@@ -11,9 +11,9 @@ use Rattle.el_chain.specs.Chains.{Chain}
 use Rattle.el_mempool.specs.declared.fault.PoolFault.{PoolFault}
 use Rattle.el_mempool.specs.declared.fault.PoolFault.TheVariants as unkept
 use Rattle.el_mempool.specs.Adding.{Joined}
-use Rattle.el_mempool.specs.Refusals.{IsRefused, is_kept}
+use Rattle.el_mempool.specs.Refusals.{IsTxRefused, is_kept}
 use Rattle.el_mempool.specs.Sift.{sift, other_than}
-use Rattle.el_mempool.specs.Standing.{AreChanged, PoolState, StandsFor, has_entry, kept_tx}
+use Rattle.el_mempool.specs.Standing.{AreChanged, PoolState, KeptStandFor, has_entry, kept_tx}
 use Rattle.el_mempool.proofs.Confirmed.{hash_turned}
 use Rattle.el_lines.specs.NodeAnswers.{pool_refused}
 use Rattle.el_lines.specs.declared.node_answer.NodeAnswer.{NodeAnswer}
@@ -65,8 +65,8 @@ joins_side pool side bytes answer id scripts j says = record {
 }
 
 -- one that is refused
-pub refused_side : (pool pool_new : PoolState) (side : Side) (bytes : List ℕ) (answer : NodeAnswer) (e : PoolFault) → StandsFor pool.entries side.chain side.kept → pool_new ≡ pool
-    → (e ≡ unkept.Memory) ⊎ ((e ≡ unkept.DiskFailed) ⊎ IsRefused side.limits side.chain side.kept bytes e) → e ≢ unkept.DiskFailed → e ≢ unkept.Memory
+pub refused_side : (pool pool_new : PoolState) (side : Side) (bytes : List ℕ) (answer : NodeAnswer) (e : PoolFault) → KeptStandFor pool.entries side.chain side.kept → pool_new ≡ pool
+    → (e ≡ unkept.Memory) ⊎ ((e ≡ unkept.DiskFailed) ⊎ IsTxRefused side.limits side.chain side.kept bytes e) → e ≢ unkept.DiskFailed → e ≢ unkept.Memory
     → ((t : Tx) → Encodes bytes t → pool_refused (txid t) e ≡ Some answer) → (e ≡ unkept.Bad → answer ≡ say.Refused refusal.Form) → StandsAfter pool_new side [] (Adds side bytes answer [])
 refused_side pool pool_new side bytes answer e stood same (inl m) no_disk no_memory told form = absurd (no_memory m)
 refused_side pool pool_new side bytes answer e stood same (inr (inl d)) no_disk no_memory told form = absurd (no_disk d)
@@ -88,25 +88,25 @@ entries_have : (chain : Chain) (all kept : List Tx) (id : Hash32) → has_entry 
 entries_have chain all [] id = refl
 entries_have chain all (t ∷ ts) id = rw (entries_have chain all ts id, hash_turned id (txid t)) refl
 
-has_kept : (pool : PoolState) (side : Side) (id : Hash32) → StandsFor pool.entries side.chain side.kept → has_entry id pool.entries ≡ is_kept id side.kept
+has_kept : (pool : PoolState) (side : Side) (id : Hash32) → KeptStandFor pool.entries side.chain side.kept → has_entry id pool.entries ≡ is_kept id side.kept
 has_kept pool side id stood = rw stood.are (entries_have side.chain side.kept side.kept id)
 
 -- a transaction that is dropped
-pub drops_side : (pool pool_new : PoolState) (side : Side) (id : Hash32) (answer : NodeAnswer) (scripts : List Hash32) → StandsFor pool.entries side.chain side.kept → true ≡ has_entry id pool.entries
-    → StandsFor pool_new.entries side.chain (sift side.chain (other_than id side.kept))
+pub drops_side : (pool pool_new : PoolState) (side : Side) (id : Hash32) (answer : NodeAnswer) (scripts : List Hash32) → KeptStandFor pool.entries side.chain side.kept → true ≡ has_entry id pool.entries
+    → KeptStandFor pool_new.entries side.chain (sift side.chain (other_than id side.kept))
     × AreChanged side.chain side.kept side.chain (sift side.chain (other_than id side.kept)) scripts → answer ≡ say.Gone id → StandsAfter pool_new side scripts (Drops side id answer [])
 drops_side pool pool_new side id answer scripts stood there after says =
     let kept : is_kept id side.kept ≡ true = sym (has_kept pool side id stood) ∙ sym there in
     record { kept = sift side.chain (other_than id side.kept); done = side_of.goes kept says refl refl; stood = after.0; changes = after.1 }
 
-pub absent_side : (pool pool_new : PoolState) (side : Side) (id : Hash32) (answer : NodeAnswer) (scripts : List Hash32) → scripts ≡ [] → StandsFor pool.entries side.chain side.kept → false ≡ has_entry id pool.entries
+pub absent_side : (pool pool_new : PoolState) (side : Side) (id : Hash32) (answer : NodeAnswer) (scripts : List Hash32) → scripts ≡ [] → KeptStandFor pool.entries side.chain side.kept → false ≡ has_entry id pool.entries
     → pool_new.entries ≡ pool.entries → answer ≡ say.Refused (refusal.Absent id) → StandsAfter pool_new side scripts (Drops side id answer [])
 absent_side pool pool_new side id answer scripts apart stood there same says =
     let none : is_kept id side.kept ≡ false = sym (has_kept pool side id stood) ∙ sym there in
     record { kept = side.kept; done = side_of.absent none says refl refl; stood = rw same stood; changes = rw apart (unchanged side.chain side.kept) }
 
-pub refused_told : (r : Result PoolAnswer QueryFault) (pool pool_new : PoolState) (side : Side) (bytes : List ℕ) (e : PoolFault) → StandsFor pool.entries side.chain side.kept → pool_new ≡ pool
-    → (e ≡ unkept.Memory) ⊎ ((e ≡ unkept.DiskFailed) ⊎ IsRefused side.limits side.chain side.kept bytes e) → OnOk r (e ≢ unkept.DiskFailed) → OnOk r (e ≢ unkept.Memory)
+pub refused_told : (r : Result PoolAnswer QueryFault) (pool pool_new : PoolState) (side : Side) (bytes : List ℕ) (e : PoolFault) → KeptStandFor pool.entries side.chain side.kept → pool_new ≡ pool
+    → (e ≡ unkept.Memory) ⊎ ((e ≡ unkept.DiskFailed) ⊎ IsTxRefused side.limits side.chain side.kept bytes e) → OnOk r (e ≢ unkept.DiskFailed) → OnOk r (e ≢ unkept.Memory)
     → ((t : Tx) → Encodes bytes t → IfOk r (λ a. pool_refused (txid t) e ≡ Some a.answer)) → (e ≡ unkept.Bad → IfOk r (λ a. a.answer ≡ say.Refused refusal.Form)) → IfOk r (λ a. a.changed ≡ [])
     → IfOk r (λ a. StandsAfter pool_new side a.changed (Adds side bytes a.answer []))
 refused_told (Ok a) pool pool_new side bytes e stood same why no_disk no_memory told form none =

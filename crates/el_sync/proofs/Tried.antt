@@ -20,7 +20,7 @@ use Rattle.el_chain.specs.Headers.{AreLinked}
 use Rattle.el_chain.specs.Moves.{InFlight, IsRefused, Moves, StoodAt, StoodBy, target, shorter, max_forward}
 use Rattle.el_mempool.specs.Sift.{sift}
 use Rattle.el_chain.specs.Touches.{AreTouched}
-use Rattle.el_mempool.specs.Standing.{AreChanged, PoolState, StandsFor}
+use Rattle.el_mempool.specs.Standing.{AreChanged, PoolState, KeptStandFor}
 use Rattle.el_fees.specs.Tables.{IsTableOf}
 use Rattle.el_model.specs.Keeping.{Either}
 use Rattle.el_model.specs.LedgerCalls.{Asked, CrashLeaves, Moved}
@@ -90,7 +90,7 @@ start_after [] chain start = chain
 start_after (n ∷ ns) chain start = start
 
 set_moved : (l : List Node) (chain start : Chain) (files : ℕ → List ℕ) (holdings : Holdings) (pool_new : PoolState) (fees_new : List ℕ) (caches caches_new : Caches) (side : Side) → SetStands holdings caches side start
-    → pool_new.limits ≡ holdings.pool.limits → (IsSure side → IsTableOf fees_new pool_new.entries) → (l ≡ [] → StandsFor pool_new.entries chain (sift chain side.kept) × CachesStand caches_new chain chain)
+    → pool_new.limits ≡ holdings.pool.limits → (IsSure side → IsTableOf fees_new pool_new.entries) → (l ≡ [] → KeptStandFor pool_new.entries chain (sift chain side.kept) × CachesStand caches_new chain chain)
     → ((n : Node) (ns : List Node) → l ≡ n ∷ ns → (pool_new ≡ holdings.pool) × CachesStand caches_new start chain)
     → SetStands (record holdings { pool = pool_new; fees = fees_new }) caches_new (record side { chain = chain; kept = kept_after l chain side.kept; ahead = l; files = files }) (start_after l chain start)
 set_moved [] chain start files holdings pool_new fees_new caches caches_new side set limits of_fees sifts same =
@@ -112,7 +112,7 @@ touches_moved (n ∷ ns) chain start files side moved changed keeps change = rec
 }
 
 set_refused : (later : Bool) (start : Chain) (files : ℕ → List ℕ) (holdings : Holdings) (pool_new : PoolState) (fees_new : List ℕ) (caches caches_new : Caches) (side : Side) → IsSure side → SetStands holdings caches side start → (later ≡ false → side.ahead ≡ []) → pool_new.limits ≡ holdings.pool.limits → (IsSure side → IsTableOf fees_new pool_new.entries)
-    → (later ≡ true → StandsFor pool_new.entries side.chain (sift side.chain side.kept)) → (later ≡ false → pool_new ≡ holdings.pool)
+    → (later ≡ true → KeptStandFor pool_new.entries side.chain (sift side.chain side.kept)) → (later ≡ false → pool_new ≡ holdings.pool)
     → CachesStand caches_new side.chain side.chain → SetStands (record holdings { pool = pool_new; fees = fees_new }) caches_new (record side { kept = sift side.chain side.kept; ahead = []; files = files }) side.chain
 set_refused true start files holdings pool_new fees_new caches caches_new side sure set still limits of_fees sifts same stand =
     record { stood = λ s. sifts refl; fees = of_fees; computed = λ s. stand; still = λ e. refl; limits = limits ∙ set.limits }
@@ -349,9 +349,9 @@ module _ {G A : Type 0} (of : Ghosts G A) where
   pub settled : (was now : Beneath G A) (mid : G) (side : Side) (start : Chain) (back : ℕ) (rest : List Node) (holdings : Holdings) (pool_new : PoolState) (fees_new : List ℕ) (caches caches_mid caches_new : Caches) (m : Made) (changed : List Hash32) (later ends : Bool) (stay : ℕ) → LeavesOwn of.ledger → of.ledger.is_live mid
       → IsSure side → IsAt of was holdings caches side start → (later ≡ false → side.ahead ≡ []) → Tries of was (record now { ledger = mid }) side back rest m → MoveKeeps of was (record now { ledger = mid }) rest m
       → ends ≡ ((length m.left == 0) && (m.moved || later)) → stay ≡ blocks_in (height_of side.chain) - back
-      → ((first chain : Chain) → StandsFor holdings.pool.entries first side.kept → of.ledger.stands mid chain → (later ≡ false → KeepsUntouched first chain stay m.touched) → ends ≡ true → StandsFor pool_new.entries chain (sift chain side.kept)
+      → ((first chain : Chain) → KeptStandFor holdings.pool.entries first side.kept → of.ledger.stands mid chain → (later ≡ false → KeepsUntouched first chain stay m.touched) → ends ≡ true → KeptStandFor pool_new.entries chain (sift chain side.kept)
       × AreChanged first side.kept chain (sift chain side.kept) changed)
-      → ((first chain : Chain) → StandsFor holdings.pool.entries first side.kept → of.ledger.stands mid chain → (later ≡ false → KeepsUntouched first chain stay m.touched) → IsTableOf holdings.fees holdings.pool.entries → IsTableOf fees_new pool_new.entries)
+      → ((first chain : Chain) → KeptStandFor holdings.pool.entries first side.kept → of.ledger.stands mid chain → (later ≡ false → KeepsUntouched first chain stay m.touched) → IsTableOf holdings.fees holdings.pool.entries → IsTableOf fees_new pool_new.entries)
       → (ends ≡ false → pool_new ≡ holdings.pool) → pool_new.limits ≡ holdings.pool.limits → Asked of.ledger mid now.ledger → of.ledger.faults now.ledger ≡ of.ledger.faults mid
       → CachesStand caches_mid start (shorter (if m.moved then back else 0) side.chain)
       → ((first chain : Chain) → CachesStand caches_mid first chain → of.ledger.stands mid chain → ends ≡ true → CachesStand caches_new chain chain)

@@ -27,9 +27,9 @@ use Rattle.el_model.specs.declared.fault.QueryFault.TheVariants as fault
 use Rattle.el_sync.specs.declared.moving.Step.{Step}
 
 -- the hash that a next block names, where the last block has this one
-abbrev pub named : Option Hash32 → Hash32
-named None = zero_hash
-named (Some h) = h
+abbrev pub previous_hash : Option Hash32 → Hash32
+previous_hash None = zero_hash
+previous_hash (Some h) = h
 
 -- The headers are the side's, and its last tip line has left nothing to do: a line of the node may be taken.
 pub record IsFrom (holdings : Holdings) (side : Side) : Type 0 where
@@ -83,7 +83,7 @@ pub record StopsAt {G A : Type 0} (of : Ghosts G A) (was now : Beneath G A) (cha
   pub rose : Lost of was now losses
 
 -- The step failed, of whatever side, and this was lost in it.
-pub record Fails {G A : Type 0} (of : Ghosts G A) (was now : Beneath G A) (chain : Chain) (later : Bool)
+pub record StepFails {G A : Type 0} (of : Ghosts G A) (was now : Beneath G A) (chain : Chain) (later : Bool)
     (e : QueryFault) : Type 0 where
   pub losses : List Deed
   pub fails : FailsBy later chain chain e losses
@@ -101,7 +101,7 @@ pub record NodeStep {G A : Type 0} (of : Ghosts G A) (was now : Beneath G A) (la
   pub still_live : result ≡ Err fault.Memory → of.ledger.is_live now.ledger
   -- the blocks that are still to be put in, each of which names the one before it
   pub nodes : IfOk result (λ s. AllByRecursion IsNode s.left)
-  pub linked : IfOk result (λ s. AreLinked (named (of.ledger.tip now.ledger)) s.left)
+  pub linked : IfOk result (λ s. AreLinked (previous_hash (of.ledger.tip now.ledger)) s.left)
   -- block files only grow, and no count falls
   pub keeps : of.files.tells → AllGrow (of.files.bytes was.files) (of.files.bytes now.files)
   pub archive_more : of.files.faults was.files ≤ of.files.faults now.files

@@ -5,7 +5,7 @@ ghost use Rattle.el_tx.specs.declared.types.Tx as tx_shape;
 ghost use Rattle.el_tx.specs.Encoding.{Encodes};
 ghost use Rattle.el_tx.specs.Hashing as hashing;
 ghost use Rattle.el_chain.specs.Chains.{Chain};
-ghost use Rattle.el_mempool.specs.Standing.{StandsFor};
+ghost use Rattle.el_mempool.specs.Standing.{KeptStandFor};
 ghost use Rattle.el_fees.specs.Tables.{IsTableOf};
 ghost use Rattle.el_model.specs.LedgerCalls.{Asked};
 ghost use Rattle.el_model.specs.declared.fault.QueryFault.TheVariants as turn_fault;
@@ -101,10 +101,10 @@ pub fn order_tx<G: Ledger>(
 ) -> Result<PoolAnswer, StepFault>
     requires live { G.is_live ledger.old }
     ensures adds { (side : Side) → G.stands ledger.old side.chain
-        → StandsFor pool.old.entries side.chain side.kept → pool.old.limits ≡ side.limits
+        → KeptStandFor pool.old.entries side.chain side.kept → pool.old.limits ≡ side.limits
         → IfOk result (λ r. StandsAfter pool.new side r.changed (Adds side bytes.now r.answer [])) }
     ensures fees { (chain : Chain) (kept : List tx_shape.Tx) → G.stands ledger.old chain
-        → StandsFor pool.old.entries chain kept → IsTableOf fees.old pool.old.entries
+        → KeptStandFor pool.old.entries chain kept → IsTableOf fees.old pool.old.entries
         → OnOk result (IsTableOf fees.new pool.new.entries) }
     // Whatever the ledger and the set stand for.
     ensures tells { IfOk result (λ r. MayTellTx r.answer) }
@@ -134,9 +134,9 @@ pub fn order_drop(
     fees: &mut FeeTable,
     id: Hash32,
 ) -> Result<PoolAnswer, StepFault>
-    ensures drops { (side : Side) → StandsFor pool.old.entries side.chain side.kept
+    ensures drops { (side : Side) → KeptStandFor pool.old.entries side.chain side.kept
         → IfOk result (λ r. StandsAfter pool.new side r.changed (Drops side id r.answer [])) }
-    ensures fees { (chain : Chain) (kept : List tx_shape.Tx) → StandsFor pool.old.entries chain kept
+    ensures fees { (chain : Chain) (kept : List tx_shape.Tx) → KeptStandFor pool.old.entries chain kept
         → IsTableOf fees.old pool.old.entries → OnOk result (IsTableOf fees.new pool.new.entries) }
     // Whatever the set stands for.
     ensures tells { IfOk result (λ r. (r.answer ≡ NodeAnswer.Gone id)

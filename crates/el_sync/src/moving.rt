@@ -11,7 +11,7 @@ ghost use Rattle.el_chain.specs.Headers.{AreLinked};
 ghost use Rattle.el_chain.specs.Moves.{shorter, max_back};
 ghost use Rattle.el_chain.specs.Records.{IsNode};
 ghost use Rattle.el_mempool.specs.Sift.{sift};
-ghost use Rattle.el_mempool.specs.Standing.{AreChanged, StandsFor};
+ghost use Rattle.el_mempool.specs.Standing.{AreChanged, KeptStandFor};
 ghost use Rattle.el_fees.specs.Tables.{IsTableOf};
 ghost use Rattle.el_model.specs.LedgerCalls.{Asked};
 ghost use Rattle.el_model.specs.Queries.{blocks_in};
@@ -105,12 +105,12 @@ fn settle<G: Ledger>(
 ) -> Result<Touched, StepFault>
     requires live { G.is_live ledger.old }
     ensures sifted { (before chain : Chain) (kept : List tx_shape.Tx)
-        → StandsFor pool.old.entries before kept → G.stands ledger.old chain
+        → KeptStandFor pool.old.entries before kept → G.stands ledger.old chain
         → IfSome reach.entry (λ r. KeepsUntouched before chain r.same r.touched.now)
-        → IfOk result (λ changed. ends ≡ true → StandsFor pool.new.entries chain (sift chain kept)
+        → IfOk result (λ changed. ends ≡ true → KeptStandFor pool.new.entries chain (sift chain kept)
         × AreChanged before kept chain (sift chain kept) changed) }
     ensures fees { (before chain : Chain) (kept : List tx_shape.Tx)
-        → StandsFor pool.old.entries before kept → G.stands ledger.old chain
+        → KeptStandFor pool.old.entries before kept → G.stands ledger.old chain
         → IfSome reach.entry (λ r. KeepsUntouched before chain r.same r.touched.now)
         → IsTableOf fees.old pool.old.entries → OnOk result (IsTableOf fees.new pool.new.entries) }
     ensures followed { (start chain : Chain) → CachesStand caches.old start chain → G.stands ledger.old chain
@@ -160,7 +160,8 @@ pub fn move_once<W: Threads + Sync, G: Ledger, A: Archive>(
         → (back ≤ length chain) × AreLinked (tip (shorter back chain)) rest }
     ensures moving { let of = ghosts ⟦<G as Ledger>⟧ ⟦<A as Archive>⟧ in
         let was = beneath ledger.old archive.old in (side : Side) (start : Chain)
-        → IsAt of was holdings.old caches.old side start → (later ≡ false → side.ahead ≡ []) → IfOk result (λ s.
+        → IsAt of was holdings.old caches.old side start → (later ≡ false → side.ahead ≡ [])
+        → IfOk result (λ s.
         Leads of (Moving ⟦<A as Archive>⟧ side back rest) side start
         (left_by was (beneath ledger.new archive.new) s side.found holdings.new caches.new)) }
     ensures stopped { (chain : Chain) → G.stands ledger.old chain → IfErr result (

@@ -205,7 +205,8 @@ fn order_tip<W: Threads + Sync, G: Ledger, A: Archive>(
         (left_by was (beneath ledger.new archive.new) s side.found holdings.new caches.new)) }
     ensures stopped { let of = ghosts ⟦<G as Ledger>⟧ ⟦<A as Archive>⟧ in
         let was = beneath ledger.old archive.old in (side : Side) (start : Chain)
-        → IsSure side → IsAt of was holdings.old caches.old side start → side.found ≡ holdings.old.tree → IfErr result (
+        → IsSure side → IsAt of was holdings.old caches.old side start → side.found ≡ holdings.old.tree
+        → IfErr result (
         StopsAt of was (beneath ledger.new archive.new) side.chain false (IsTipMove side h)) }
     ensures memory { (side : Side) → G.stands ledger.old side.chain → side.found ≡ holdings.old.tree
         → IsErrOf result turn_fault.Memory → MayMove side h }
@@ -246,7 +247,8 @@ fn order_line<W: Threads + Sync, G: Ledger, A: Archive>(
         (left_by was (beneath ledger.new archive.new) s holdings.new.tree holdings.new caches.new)) }
     ensures stopped { let of = ghosts ⟦<G as Ledger>⟧ ⟦<A as Archive>⟧ in
         let was = beneath ledger.old archive.old in (side : Side) (start : Chain)
-        → IsSure side → IsAt of was holdings.old caches.old side start → IsFrom holdings.old side → IfErr result (
+        → IsSure side → IsAt of was holdings.old caches.old side start → IsFrom holdings.old side
+        → IfErr result (
         StopsAt of was (beneath ledger.new archive.new) side.chain false (IsFirstMove side (line text.now))) }
     ensures memory { (side : Side) (start : Chain)
         → IsSure side → IsAt (ghosts ⟦<G as Ledger>⟧ ⟦<A as Archive>⟧) (beneath ledger.old archive.old)
@@ -315,7 +317,8 @@ pub fn order<W: Threads + Sync, G: Ledger, A: Archive>(
         (left_by was (beneath ledger.new archive.new) s holdings.new.tree holdings.new caches.new)) }
     ensures stopped { let of = ghosts ⟦<G as Ledger>⟧ ⟦<A as Archive>⟧ in
         let was = beneath ledger.old archive.old in (side : Side) (start : Chain)
-        → IsSure side → IsAt of was holdings.old caches.old side start → IsFrom holdings.old side → IfErr result (
+        → IsSure side → IsAt of was holdings.old caches.old side start → IsFrom holdings.old side
+        → IfErr result (
         StopsAt of was (beneath ledger.new archive.new) side.chain false (IsFirstMove side (as_listed met))) }
     // What needs no memory is answered without it.
     ensures memory { (side : Side) (start : Chain)

@@ -7,7 +7,7 @@ use Rattle.el_base.specs.declared.hash.Hash32.{Hash32}
 use Rattle.el_tx.specs.declared.types.Outpoint.{Outpoint}
 use Rattle.el_tx.specs.declared.types.TxOut.{TxOut}
 use Rattle.el_tx.specs.Hashing.{txid}
-use Rattle.el_chain.specs.RowCounts.{has_script, spending_inputs}
+use Rattle.el_chain.specs.RowCounts.{is_script_among, spending_inputs}
 use Rattle.el_chain.specs.declared.coin.Coin.{Coin}
 use Rattle.el_chain.specs.Chains.{Chain, zero_hash}
 use Rattle.el_chain.specs.Coins.{is_coin_of, coins, supply}
@@ -64,7 +64,7 @@ balances chain script =
 
 -- the output knows its height and its script
 abbrev pub Knows : List ListedTx → List Hash32 → List Output → Type 0
-Knows txs scripts xs = AllByRecursion (λ (x : Output). (height_at x.tx txs ≡ x.coin.height) × (has_script x.coin.script scripts ≡ true)) xs
+Knows txs scripts xs = AllByRecursion (λ (x : Output). (height_at x.tx txs ≡ x.coin.height) × (is_script_among x.coin.script scripts ≡ true)) xs
 
 pub height_of : (front : List ListedTx) (t : ListedTx) (back : List ListedTx) (n : ℕ) → length front ≡ n → height_at n (front ++ t ∷ back) ≡ t.height
 height_of front t back n at =
@@ -108,7 +108,7 @@ find_none o (c ∷ cs) e = elim (cases_Bool (is_coin_of o c)) [
     wrong f = cc
 
 coin_here : (o : Outpoint) (txs : List ListedTx) (scripts : List Hash32) (ins : List ℕ) (es : List ListedEntry) (outs : List ListedOut) (x : Output) → is_coin_of o x.coin ≡ true
-    → height_at x.tx txs ≡ x.coin.height → has_script x.coin.script scripts ≡ true
+    → height_at x.tx txs ≡ x.coin.height → is_script_among x.coin.script scripts ≡ true
     → x.coin ≡ shown_coin o (record { txs = txs; outs = outs; ins = ins; scripts = scripts; entries = es }) (listed_out scripts x)
 coin_here o txs scripts ins es outs x is height there =
     let same = same_gives x.coin.outpoint o is in

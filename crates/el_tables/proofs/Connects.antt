@@ -9,7 +9,7 @@ use Rattle.el_tx.specs.declared.types.TxIn.{TxIn}
 use Rattle.el_tx.specs.declared.types.TxOut.{TxOut}
 use Rattle.el_tx.specs.declared.types.Tx.{Tx}
 use Rattle.el_tx.specs.Hashing.{txid, same_outpoint}
-use Rattle.el_chain.specs.RowCounts.{has_script, spending_inputs, spent_scripts, output_script, concerned_scripts, add_scripts}
+use Rattle.el_chain.specs.RowCounts.{is_script_among, spending_inputs, spent_scripts, output_script, concerned_scripts, add_scripts}
 use Rattle.el_chain.specs.declared.coin.Coin.{Coin}
 use Rattle.el_chain.specs.Coins.{is_coin_of, without}
 use Rattle.el_chain.specs.CoinLaws.{coins_made, makes}
@@ -20,7 +20,7 @@ use Rattle.el_tables.specs.Lists.{ListedTx, ListedEntry, Lists, script_number, a
 use Rattle.el_tables.specs.Lists.State.{Spent}
 use Rattle.el_chain.specs.History.{Position}
 use Rattle.el_tables.specs.ChainLists.{Output, output, outputs_from, outputs, listed_position, txs_from, ins_from, spent_numbers, scripts_of, entry_of, entries_from, listed_out, lists_of}
-use Rattle.el_prepare.specs.Prepared.{paid, prepared_tx}
+use Rattle.el_prepare.specs.Prepared.{value_and_script, prepared_tx}
 use Rattle.el_tables.specs.Connecting.{◌>>=◌, spend_all, fund_all, listed_after, connect_tx}
 use Rattle.el_tables.proofs.Outputs.{coins_of, outputs_more}
 use Rattle.el_tables.proofs.Names.{Names, settle, names_settled}
@@ -108,11 +108,11 @@ all_joined : (xs ss us : List Hash32) → AllIn xs ss → AllIn xs us → AllIn 
 all_joined xs [] us a b = b
 all_joined xs (s ∷ ss) us a b = (a.0, all_joined xs ss us a.1 b)
 
-scripts_of_coins : (scripts : List Hash32) (cs : List Coin) → AllByRecursion (λ (c : Coin). has_script c.script scripts ≡ true) cs → AllIn scripts (map (λ (c : Coin). c.script) cs)
+scripts_of_coins : (scripts : List Hash32) (cs : List Coin) → AllByRecursion (λ (c : Coin). is_script_among c.script scripts ≡ true) cs → AllIn scripts (map (λ (c : Coin). c.script) cs)
 scripts_of_coins scripts [] h = tt
 scripts_of_coins scripts (c ∷ cs) h = (h.0, scripts_of_coins scripts cs h.1)
 
-taken_in : (scripts : List Hash32) (cs : List Coin) (is : List TxIn) → AllByRecursion (λ (c : Coin). has_script c.script scripts ≡ true) cs → AllIn scripts (spent_scripts cs is)
+taken_in : (scripts : List Hash32) (cs : List Coin) (is : List TxIn) → AllByRecursion (λ (c : Coin). is_script_among c.script scripts ≡ true) cs → AllIn scripts (spent_scripts cs is)
 taken_in scripts cs [] h = tt
 taken_in scripts cs (i ∷ is) h =
     all_joined scripts (map (λ (c : Coin). c.script) (filter (is_coin_of i.from) cs)) (spent_scripts cs is)
@@ -162,7 +162,7 @@ next_position height pos start t ps = record { height = height; pos = pos; start
 listed_is : (height start : ℕ) (t : Tx) (l : Lists) (p : Position) → p.tx ≡ t → p.height ≡ height → p.start ≡ start
     → listed_after height (prepared_tx start t) l ≡ listed_position (length l.outs) (length l.ins) p
 listed_is height start t l p a b c =
-    let outs = length-map t.outputs paid in
+    let outs = length-map t.outputs value_and_script in
     let ins = length-map (spending_inputs t) (λ (i : TxIn). i.from) in
     rw (a, b, c, outs, ins) refl
 
@@ -196,9 +196,9 @@ connect_faultless ps height pos start t sound none =
     let begun : add_tx row (lists_at ts xs1 ins1 scripts es1) ≡ lists_with ts row xs1 [] ins1 scripts es1 =
     ap (λ (l : List Output). let r : Lists = record { txs = ts ++ row ∷ []; outs = map (listed_out scripts) l; ins = ins1; scripts = scripts; entries = es1 } in r)
     (sym (append-nil xs1)) in
-    let outputs_done : fund_all m 0 (map paid os) (add_tx row (lists_at ts xs1 ins1 scripts es1))
+    let outputs_done : fund_all m 0 (map value_and_script os) (add_tx row (lists_at ts xs1 ins1 scripts es1))
     ≡ lists_with ts row (bury_outputs m (txid t) 0 os xs1) (map (output m []) (makes p)) ins1 (add_scripts scripts made) (touched m scripts made es1) =
-    ap (fund_all m 0 (map paid os)) begun
+    ap (fund_all m 0 (map value_and_script os)) begun
     ∙ fund_all_is os 0 height ts row xs1 [] ins1 scripts es1 (names_inputs m is ts xs names) (have_joined scripts xs1 [] (have_inputs m is scripts xs have) tt) in
     let whole = whole_settles m p xs in
     let more = scripts_more ps p in
@@ -224,7 +224,7 @@ connect_faultless ps height pos start t sound none =
     ∙ ap (λ (l : List ListedEntry). l ++ map (entry_of (scripts_of (ps ++ p ∷ [])) m) (add_scripts [] (concerned_scripts p)))
     (sym (entries_same scripts (scripts_of (ps ++ p ∷ [])) 0 ps keeps met_all))
     ∙ sym (entries_more (scripts_of (ps ++ p ∷ [])) 0 m ps p (omega arith)) in
-    ap (λ (r : Result Lists ℕ). r >>= (λ spent. Ok (fund_all m 0 (map paid os) (add_tx row spent)))) inputs_done
+    ap (λ (r : Result Lists ℕ). r >>= (λ spent. Ok (fund_all m 0 (map value_and_script os) (add_tx row spent)))) inputs_done
     ∙ ap (λ (n : Lists). Ok n) (outputs_done ∙ lists_same _ _ _ _ _ _ _ _ _ _ e_txs e_outs e_ins all_scripts e_entries)
 
 pub connect_refused : (ps : List Position) (height pos start : ℕ) (t : Tx) (input : ℕ) → missing_input 0 (spending_inputs t) (coins_of (outputs ps)) ≡ Some input
@@ -236,7 +236,7 @@ connect_refused ps height pos start t input some =
     let scripts = scripts_of ps in
     let have = outputs_have scripts 0 ps (all_met ps) in
     let done = spend_all_is m is 0 ts (outputs ps) (ins_from ts 0 ps) scripts (entries_from scripts 0 ps) (names_all ps) have in
-    ap (λ (r : Result Lists ℕ). r >>= (λ spent. Ok (fund_all m 0 (map paid t.outputs) (add_tx (listed_after height (prepared_tx start t) (lists_of ps)) spent))))
+    ap (λ (r : Result Lists ℕ). r >>= (λ spent. Ok (fund_all m 0 (map value_and_script t.outputs) (add_tx (listed_after height (prepared_tx start t) (lists_of ps)) spent))))
     (done ∙ ap (λ (r : Option ℕ). outcome r (after_taking m is ts (outputs ps) (ins_from ts 0 ps) scripts (entries_from scripts 0 ps))) some)
 
 -- each input of the new transaction took an output too

@@ -7,7 +7,7 @@ use Rattle.el_base.specs.declared.hash.Hash32.{Hash32}
 use Rattle.el_tx.specs.declared.types.Outpoint.{Outpoint}
 use Rattle.el_tx.specs.declared.types.TxIn.{TxIn}
 use Rattle.el_tx.specs.Hashing.{txid}
-use Rattle.el_chain.specs.RowCounts.{has_script, add_script, spending_inputs, concerned_scripts, add_scripts}
+use Rattle.el_chain.specs.RowCounts.{is_script_among, add_script, spending_inputs, concerned_scripts, add_scripts}
 use Rattle.el_chain.specs.declared.coin.Coin.{Coin}
 use Rattle.el_chain.specs.CoinLaws.{takes, makes}
 use Rattle.el_chain.specs.Faults.{missing_input}
@@ -31,7 +31,7 @@ use Rattle.el_tables.proofs.TakeBack.{but_last_is, last_is, FreeFrom, outputs_ba
 
 -- each script that is there has an entry
 abbrev pub Covered : List Hash32 → List ListedEntry → Type 0
-Covered scripts es = (t : Hash32) → has_script t scripts ≡ true → list_any (is_of_script (script_number t scripts)) es ≡ true
+Covered scripts es = (t : Hash32) → is_script_among t scripts ≡ true → list_any (is_of_script (script_number t scripts)) es ≡ true
 
 -- each entry is of one that is there
 abbrev pub Within : List Hash32 → List ListedEntry → Type 0
@@ -66,13 +66,13 @@ within_joined scripts [] fs a b = b
 within_joined scripts (e ∷ es) fs a b = (a.0, within_joined scripts es fs a.1 b)
 
 -- what was there, where one more is there
-once_was : (s t : Hash32) (scripts : List Hash32) → has_script t (add_script s scripts) ≡ true → (has_script t scripts ≡ true) ⊎ (s ≡ t)
-once_was s t scripts h = elim (cases_Bool (has_script s scripts)) [
+once_was : (s t : Hash32) (scripts : List Hash32) → is_script_among t (add_script s scripts) ≡ true → (is_script_among t scripts ≡ true) ⊎ (s ≡ t)
+once_was s t scripts h = elim (cases_Bool (is_script_among s scripts)) [
   | inl e ↦ inl (rw e at h)
   | inr e ↦ split scripts (rw e at h)
 ]
   where
-    split : (xs : List Hash32) → has_script t (xs ++ s ∷ []) ≡ true → (has_script t xs ≡ true) ⊎ (s ≡ t)
+    split : (xs : List Hash32) → is_script_among t (xs ++ s ∷ []) ≡ true → (is_script_among t xs ≡ true) ⊎ (s ≡ t)
     split [] g = elim (cases_Bool (same_hash s t)) [
       | inl e ↦ inr (hash_gives s t e)
       | inr e ↦ let bad = rw e at g in absurd (wrong bad)
@@ -82,21 +82,21 @@ once_was s t scripts h = elim (cases_Bool (has_script s scripts)) [
         wrong f = cc
     split (x ∷ xs) g = go (split xs)
       where
-        go : (has_script t (xs ++ s ∷ []) ≡ true → (has_script t xs ≡ true) ⊎ (s ≡ t)) → (has_script t (x ∷ xs) ≡ true) ⊎ (s ≡ t)
+        go : (is_script_among t (xs ++ s ∷ []) ≡ true → (is_script_among t xs ≡ true) ⊎ (s ≡ t)) → (is_script_among t (x ∷ xs) ≡ true) ⊎ (s ≡ t)
         go rest = elim (cases_Bool (same_hash x t)) [
-          | inl e ↦ inl (or_left (same_hash x t) (has_script t xs) e)
+          | inl e ↦ inl (or_left (same_hash x t) (is_script_among t xs) e)
           | inr e ↦ let more = rw e at g in lift (rest more)
         ]
           where
-            lift : (has_script t xs ≡ true) ⊎ (s ≡ t) → (has_script t (x ∷ xs) ≡ true) ⊎ (s ≡ t)
-            lift (inl i) = inl (or_right (same_hash x t) (has_script t xs) i)
+            lift : (is_script_among t xs ≡ true) ⊎ (s ≡ t) → (is_script_among t (x ∷ xs) ≡ true) ⊎ (s ≡ t)
+            lift (inl i) = inl (or_right (same_hash x t) (is_script_among t xs) i)
             lift (inr i) = inr i
 
 covered_once : (s : Hash32) (m : ℕ) (scripts : List Hash32) (es : List ListedEntry) → Covered scripts es
     → Covered (add_script s scripts) (es ++ entry_of (add_script s scripts) m s ∷ [])
 covered_once s m scripts es covered t h = by (once_was s t scripts h)
   where
-    by : (has_script t scripts ≡ true) ⊎ (s ≡ t) → list_any (is_of_script (script_number t (add_script s scripts))) (es ++ entry_of (add_script s scripts) m s ∷ []) ≡ true
+    by : (is_script_among t scripts ≡ true) ⊎ (s ≡ t) → list_any (is_of_script (script_number t (add_script s scripts))) (es ++ entry_of (add_script s scripts) m s ∷ []) ≡ true
     by (inl old) =
         let kept = (once_keeps s t scripts old).1 in
         rw kept (any_more (script_number t scripts) es (entry_of (add_script s scripts) m s ∷ []) (covered t old))
@@ -115,7 +115,7 @@ one_entry_back n m s scripts es covered within =
     let is_last = last_is es e in
     let others = but_last_is es e in
     let number = (once_has s scripts).1 in
-    elim (cases_Bool (has_script s scripts)) [
+    elim (cases_Bool (is_script_among s scripts)) [
       | inl h ↦
           let there = covered s h in
           rw (is_last, others, number, there, h) refl
@@ -160,7 +160,7 @@ none_back n m (suc k) scripts es h = let none = last_no m es h in rw none refl
 
 -- gathering what is gathered
 add_gathered : (s : Hash32) (xs ys : List Hash32) → add_scripts xs (add_script s ys) ≡ add_script s (add_scripts xs ys)
-add_gathered s xs ys = elim (cases_Bool (has_script s ys)) [
+add_gathered s xs ys = elim (cases_Bool (is_script_among s ys)) [
   | inl h ↦ let there = gather_has ys xs s h in rw (h, there) refl
   | inr h ↦ rw h (gather_joined xs ys (s ∷ []))
 ]
@@ -170,7 +170,7 @@ gather_twice [] xs ys = refl
 gather_twice (s ∷ ss) xs ys = gather_twice ss xs (add_script s ys) ∙ ap (λ (l : List Hash32). add_scripts l ss) (add_gathered s xs ys)
 
 -- the entries of transactions cover their scripts
-own_covered : (scripts : List Hash32) (n : ℕ) (t : Hash32) (ss : List Hash32) → has_script t ss ≡ true → list_any (is_of_script (script_number t scripts)) (map (entry_of scripts n) ss) ≡ true
+own_covered : (scripts : List Hash32) (n : ℕ) (t : Hash32) (ss : List Hash32) → is_script_among t ss ≡ true → list_any (is_of_script (script_number t scripts)) (map (entry_of scripts n) ss) ≡ true
 own_covered scripts n t [] h = absurd (wrong h)
   where
     wrong : false ≡ true → ⊥
@@ -184,18 +184,18 @@ own_covered scripts n t (s ∷ ss) h = elim (cases_Bool (same_hash s t)) [
       or_right (script_number s scripts == script_number t scripts) (list_any (is_of_script (script_number t scripts)) (map (entry_of scripts n) ss)) (own_covered scripts n t ss rest)
 ]
 
-has_split : (t : Hash32) (xs ys : List Hash32) → has_script t (xs ++ ys) ≡ true → (has_script t xs ≡ true) ⊎ (has_script t ys ≡ true)
+has_split : (t : Hash32) (xs ys : List Hash32) → is_script_among t (xs ++ ys) ≡ true → (is_script_among t xs ≡ true) ⊎ (is_script_among t ys ≡ true)
 has_split t [] ys h = inr h
 has_split t (x ∷ xs) ys h = elim (cases_Bool (same_hash x t)) [
-  | inl e ↦ inl (or_left (same_hash x t) (has_script t xs) e)
+  | inl e ↦ inl (or_left (same_hash x t) (is_script_among t xs) e)
   | inr e ↦ let rest = rw e at h in lift (has_split t xs ys rest)
 ]
   where
-    lift : (has_script t xs ≡ true) ⊎ (has_script t ys ≡ true) → (has_script t (x ∷ xs) ≡ true) ⊎ (has_script t ys ≡ true)
-    lift (inl i) = inl (or_right (same_hash x t) (has_script t xs) i)
+    lift : (is_script_among t xs ≡ true) ⊎ (is_script_among t ys ≡ true) → (is_script_among t (x ∷ xs) ≡ true) ⊎ (is_script_among t ys ≡ true)
+    lift (inl i) = inl (or_right (same_hash x t) (is_script_among t xs) i)
     lift (inr i) = inr i
 
-all_covered : (scripts : List Hash32) (n : ℕ) (ps : List Position) (t : Hash32) → has_script t (flat_map concerned_scripts ps) ≡ true
+all_covered : (scripts : List Hash32) (n : ℕ) (ps : List Position) (t : Hash32) → is_script_among t (flat_map concerned_scripts ps) ≡ true
     → list_any (is_of_script (script_number t scripts)) (entries_from scripts n ps) ≡ true
 all_covered scripts n [] t h = absurd (wrong h)
   where
@@ -203,8 +203,8 @@ all_covered scripts n [] t h = absurd (wrong h)
     wrong f = cc
 all_covered scripts n (p ∷ ps) t h = by (all_covered scripts (n + 1) ps t) (has_split t (concerned_scripts p) (flat_map concerned_scripts ps) h)
   where
-    by : (has_script t (flat_map concerned_scripts ps) ≡ true → list_any (is_of_script (script_number t scripts)) (entries_from scripts (n + 1) ps) ≡ true)
-        → (has_script t (concerned_scripts p) ≡ true) ⊎ (has_script t (flat_map concerned_scripts ps) ≡ true)
+    by : (is_script_among t (flat_map concerned_scripts ps) ≡ true → list_any (is_of_script (script_number t scripts)) (entries_from scripts (n + 1) ps) ≡ true)
+        → (is_script_among t (concerned_scripts p) ≡ true) ⊎ (is_script_among t (flat_map concerned_scripts ps) ≡ true)
         → list_any (is_of_script (script_number t scripts)) (map (entry_of scripts n) (add_scripts [] (concerned_scripts p)) ++ entries_from scripts (n + 1) ps) ≡ true
     by others (inl e) = any_more (script_number t scripts) (map (entry_of scripts n) (add_scripts [] (concerned_scripts p))) (entries_from scripts (n + 1) ps)
         (own_covered scripts n t (add_scripts [] (concerned_scripts p)) (gather_has (concerned_scripts p) [] t e))

@@ -3,7 +3,7 @@ use Rattle.std.proofs.Common.{◌≡◌, inl, inr, ℕ, zero, suc, ◌+◌, ◌-
 use Rattle.std.proofs.lemmas.Bool.{cases_Bool, cases_lt, or_parts, or_from, true≢false}
 use Rattle.std.specs.List.{list_any}
 use Rattle.el_base.specs.declared.hash.Hash32.{Hash32}
-use Rattle.el_chain.specs.RowCounts.{has_script, add_script, concerned_scripts, add_scripts}
+use Rattle.el_chain.specs.RowCounts.{is_script_among, add_script, concerned_scripts, add_scripts}
 use Rattle.el_chain.specs.Headers.{same_hash}
 use Rattle.el_tables.specs.Lists.{State, ListedTx, ListedOut, ListedEntry, Lists, no_lists, with_state, script_number, is_of_script, last_tx_of, is_tx, append_entry, add_entry, balance_of, add_tx, spend_output, add_output, bury, replaced}
 use Rattle.el_tables.specs.Lists.State.{Unspent, Spent, Buried}
@@ -102,7 +102,7 @@ first_is_last scripts entries h es e is none =
     ]
 
 pub touch_new_fits : (counts : HeadCounts) (bs : List ListedBlock) (l : Lists) (s : Hash32) (tx : ℕ) → Fits l → 0 < counts.scripts
-    → has_script s l.scripts ≡ false → tables_of counts bs (add_entry s tx l) ≡ script_added s tx (tables_of counts bs l)
+    → is_script_among s l.scripts ≡ false → tables_of counts bs (add_entry s tx l) ≡ script_added s tx (tables_of counts bs l)
 touch_new_fits counts bs l s tx h some new =
     touch_new_rows counts bs l s tx some new (new_has_no_entry l.scripts l.entries h.numbered) (balance_none (length l.scripts) l.outs h.within)
 
@@ -184,7 +184,7 @@ out_back_fits l h = go (last l.outs)
 
 pub touch_numbers : (scripts : List Hash32) (es : List ListedEntry) (s : Hash32) (tx : ℕ) → IsNumbered scripts es
     → IsNumbered (add_script s scripts) (append_entry tx (script_number s scripts) es)
-touch_numbers scripts es s tx h = elim (cases_Bool (has_script s scripts)) [
+touch_numbers scripts es s tx h = elim (cases_Bool (is_script_among s scripts)) [
   | inr new ↦
       let none = no_last_tx (length scripts) es (new_has_no_entry scripts es h) in
       let n = number_next s scripts new in
@@ -200,7 +200,7 @@ touch_numbers scripts es s tx h = elim (cases_Bool (has_script s scripts)) [
     all : reached 0 es ≡ length scripts
     all = h.all
 
-    fresh : has_script s scripts ≡ false → (n : ℕ) → n ≡ length scripts → IsNumbered (scripts ++ s ∷ []) (es ++ record { tx = tx; script = n } ∷ [])
+    fresh : is_script_among s scripts ≡ false → (n : ℕ) → n ≡ length scripts → IsNumbered (scripts ++ s ∷ []) (es ++ record { tx = tx; script = n } ∷ [])
     fresh new n at =
         let e : ListedEntry = record { tx = tx; script = n } in
         let long = length-append scripts (s ∷ []) in
@@ -228,11 +228,11 @@ short [] = refl
 short (s ∷ []) = refl
 short (s ∷ t ∷ ss) = let rest = short (t ∷ ss) in omega arith
 
-none_front : (s : Hash32) (xs : List Hash32) → has_script s xs ≡ false → has_script s (but_last xs) ≡ false
+none_front : (s : Hash32) (xs : List Hash32) → is_script_among s xs ≡ false → is_script_among s (but_last xs) ≡ false
 none_front s [] h = refl
 none_front s (x ∷ []) h = refl
 none_front s (x ∷ y ∷ xs) h =
-    let parts = or_parts (same_hash x s) (has_script s (y ∷ xs)) h in or_from (same_hash x s) (has_script s (but_last (y ∷ xs))) parts.0 (none_front s (y ∷ xs) parts.1)
+    let parts = or_parts (same_hash x s) (is_script_among s (y ∷ xs)) h in or_from (same_hash x s) (is_script_among s (but_last (y ∷ xs))) parts.0 (none_front s (y ∷ xs) parts.1)
 
 once_front : (xs : List Hash32) → Once xs → Once (but_last xs)
 once_front [] h = tt
@@ -241,15 +241,15 @@ once_front (x ∷ y ∷ xs) h = (none_front x (y ∷ xs) h.0, once_front (y ∷ 
 
 -- the script that a walk finds, which is the newest_tx of its hash, is the one of its number
 found_from : (n : ℕ) (s : Hash32) (xs : List Hash32) → Once xs
-    → greatest_from n (λ (x : Hash32). same_hash x s) xs ≡ cond (has_script s xs) (Some (n + script_number s xs)) None
+    → greatest_from n (λ (x : Hash32). same_hash x s) xs ≡ cond (is_script_among s xs) (Some (n + script_number s xs)) None
 found_from n s [] h = refl
 found_from n s (x ∷ xs) h = let rest = found_from (n + 1) s xs h.1 in elim (cases_Bool (same_hash x s)) [
   | inl e ↦
-      let none : has_script s xs ≡ false = ap (λ (u : Hash32). has_script u xs) (sym (hash_gives x s e)) ∙ h.0 in
+      let none : is_script_among s xs ≡ false = ap (λ (u : Hash32). is_script_among u xs) (sym (hash_gives x s e)) ∙ h.0 in
       let gone : greatest_from (n + 1) (λ (u : Hash32). same_hash u s) xs ≡ None = rest ∙ rw none refl in
       let zero_n : n ≡ n + 0 = omega arith in
       rw (e, gone) (ap (λ (k : ℕ). Some k) zero_n)
-  | inr e ↦ elim (cases_Bool (has_script s xs)) [
+  | inr e ↦ elim (cases_Bool (is_script_among s xs)) [
     | inl k ↦
         let one : greatest_from (n + 1) (λ (u : Hash32). same_hash u s) xs ≡ Some (n + 1 + script_number s xs) = rest ∙ rw k refl in
         let at : n + 1 + script_number s xs ≡ n + suc (script_number s xs) = omega arith in
@@ -260,8 +260,8 @@ found_from n s (x ∷ xs) h = let rest = found_from (n + 1) s xs h.1 in elim (ca
   ]
 ]
 
-pub script_found : (s : Hash32) (xs : List Hash32) → Once xs → greatest (λ (x : Hash32). same_hash x s) xs ≡ (if has_script s xs then Some (script_number s xs) else None)
-script_found s xs h = found_from 0 s xs h ∙ by (has_script s xs)
+pub script_found : (s : Hash32) (xs : List Hash32) → Once xs → greatest (λ (x : Hash32). same_hash x s) xs ≡ (if is_script_among s xs then Some (script_number s xs) else None)
+script_found s xs h = found_from 0 s xs h ∙ by (is_script_among s xs)
   where
     by : (b : Bool) → cond b (Some (0 + script_number s xs)) None ≡ cond b (Some (script_number s xs)) None
     by true = let e : 0 + script_number s xs ≡ script_number s xs = omega arith in ap (λ (k : ℕ). Some k) e

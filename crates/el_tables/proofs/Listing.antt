@@ -10,7 +10,7 @@ use Rattle.el_tx.specs.declared.types.Outpoint.{Outpoint}
 use Rattle.el_tx.specs.declared.types.TxIn.{TxIn}
 use Rattle.el_tx.specs.declared.types.TxOut.{TxOut}
 use Rattle.el_tx.specs.Hashing.{same_outpoint, is_coinbase}
-use Rattle.el_chain.specs.RowCounts.{has_script, add_script, spending_inputs, spent_scripts, output_script, concerned_scripts, add_scripts}
+use Rattle.el_chain.specs.RowCounts.{is_script_among, add_script, spending_inputs, spent_scripts, output_script, concerned_scripts, add_scripts}
 use Rattle.el_chain.specs.declared.coin.Coin.{Coin}
 use Rattle.el_chain.specs.declared.entry.Entry.{Entry}
 use Rattle.el_chain.specs.Chains.{Chain, zero_hash}
@@ -25,7 +25,7 @@ use Rattle.el_tables.proofs.Scripts.{hash_gives, hash_from, number_apart, AllIn,
 
 -- 1. Which scripts a transaction concerns
 
-any_joined : (s : Hash32) (xs ys : List Hash32) → has_script s (xs ++ ys) ≡ (has_script s xs || has_script s ys)
+any_joined : (s : Hash32) (xs ys : List Hash32) → is_script_among s (xs ++ ys) ≡ (is_script_among s xs || is_script_among s ys)
 any_joined s [] ys = refl
 any_joined s (x ∷ xs) ys = elim (cases_Bool (same_hash x s)) [
   | inl h ↦ rw h refl
@@ -33,7 +33,7 @@ any_joined s (x ∷ xs) ys = elim (cases_Bool (same_hash x s)) [
 ]
 
 by_coins : (s : Hash32) (o : Outpoint) (cs : List Coin)
-    → has_script s (map (λ (c : Coin). c.script) (filter (is_coin_of o) cs)) ≡ list_any (λ (c : Coin). same_outpoint c.outpoint o && bytes_eq c.script.0 s.0) cs
+    → is_script_among s (map (λ (c : Coin). c.script) (filter (is_coin_of o) cs)) ≡ list_any (λ (c : Coin). same_outpoint c.outpoint o && bytes_eq c.script.0 s.0) cs
 by_coins s o [] = refl
 by_coins s o (c ∷ cs) =
     let rest = by_coins s o cs in
@@ -42,13 +42,13 @@ by_coins s o (c ∷ cs) =
       | inr h ↦ rw (h, rest) refl
     ]
 
-by_inputs : (s : Hash32) (cs : List Coin) (is : List TxIn) → has_script s (spent_scripts cs is) ≡ list_any (λ (i : TxIn). has_own s.0 cs i.from) is
+by_inputs : (s : Hash32) (cs : List Coin) (is : List TxIn) → is_script_among s (spent_scripts cs is) ≡ list_any (λ (i : TxIn). has_own s.0 cs i.from) is
 by_inputs s cs [] = refl
 by_inputs s cs (i ∷ is) =
     any_joined s (map (λ (c : Coin). c.script) (filter (is_coin_of i.from) cs)) (spent_scripts cs is)
     ∙ ap₂ (λ (a b : Bool). a || b) (by_coins s i.from cs) (by_inputs s cs is)
 
-by_outputs : (s : Hash32) (os : List TxOut) → has_script s (map output_script os) ≡ list_any (λ (o : TxOut). bytes_eq (script_hash_of o) s.0) os
+by_outputs : (s : Hash32) (os : List TxOut) → is_script_among s (map output_script os) ≡ list_any (λ (o : TxOut). bytes_eq (script_hash_of o) s.0) os
 by_outputs s [] = refl
 by_outputs s (o ∷ os) = ap (λ (b : Bool). bytes_eq (script_hash_of o) s.0 || b) (by_outputs s os)
 
@@ -58,7 +58,7 @@ or_turned true false = refl
 or_turned false true = refl
 or_turned false false = refl
 
-pub met_is : (s : Hash32) (p : Position) → has_script s (concerned_scripts p) ≡ concerns s.0 p
+pub met_is : (s : Hash32) (p : Position) → is_script_among s (concerned_scripts p) ≡ concerns s.0 p
 met_is s p =
     any_joined s (spent_scripts p.before (spending_inputs p.tx)) (map output_script p.tx.outputs)
     ∙ ap₂ (λ (a b : Bool). a || b) (elim (cases_Bool (is_coinbase p.tx)) [
@@ -69,11 +69,11 @@ met_is s p =
 
 -- 2. One entry for each
 
-pub once_snoc : (s : Hash32) (xs : List Hash32) → has_script s xs ≡ false → Once xs → Once (xs ++ s ∷ [])
+pub once_snoc : (s : Hash32) (xs : List Hash32) → is_script_among s xs ≡ false → Once xs → Once (xs ++ s ∷ [])
 once_snoc s [] none once = (refl, tt)
 once_snoc s (x ∷ xs) none once =
-    let parts = or_parts (same_hash x s) (has_script s xs) none in
-    (any_joined x xs (s ∷ []) ∙ or_from (has_script x xs) (has_script x (s ∷ [])) once.0 (or_from (same_hash s x) false (turned parts.0) refl), once_snoc s xs parts.1 once.1)
+    let parts = or_parts (same_hash x s) (is_script_among s xs) none in
+    (any_joined x xs (s ∷ []) ∙ or_from (is_script_among x xs) (is_script_among x (s ∷ [])) once.0 (or_from (same_hash s x) false (turned parts.0) refl), once_snoc s xs parts.1 once.1)
   where
     turned : same_hash x s ≡ false → same_hash s x ≡ false
     turned e = elim (cases_Bool (same_hash s x)) [
@@ -86,19 +86,19 @@ once_snoc s (x ∷ xs) none once =
 
 pub once_gathered : (ss xs : List Hash32) → Once xs → Once (add_scripts xs ss)
 once_gathered [] xs once = once
-once_gathered (s ∷ ss) xs once = once_gathered ss (add_script s xs) (elim (cases_Bool (has_script s xs)) [
+once_gathered (s ∷ ss) xs once = once_gathered ss (add_script s xs) (elim (cases_Bool (is_script_among s xs)) [
   | inl h ↦ rw h once
   | inr h ↦ rw h (once_snoc s xs h once)
 ])
 
 pub one_entry : (scripts : List Hash32) (n : ℕ) (s : Hash32) (ss : List Hash32) → AllIn scripts ss → Once ss
-    → filter (is_of_script (script_number s scripts)) (map (entry_of scripts n) ss) ≡ cond (has_script s ss) (entry_of scripts n s ∷ []) []
+    → filter (is_of_script (script_number s scripts)) (map (entry_of scripts n) ss) ≡ cond (is_script_among s ss) (entry_of scripts n s ∷ []) []
 one_entry scripts n s [] all once = refl
 one_entry scripts n s (x ∷ xs) all once = elim (cases_Bool (same_hash x s)) [
   | inl h ↦
       let e = hash_gives x s h in
       let self : (script_number x scripts == script_number s scripts) ≡ true = eq-eqb (script_number x scripts) (script_number s scripts) (ap (λ (t : Hash32). script_number t scripts) e) in
-      let none : has_script s xs ≡ false = ap (λ (t : Hash32). has_script t xs) (sym e) ∙ once.0 in
+      let none : is_script_among s xs ≡ false = ap (λ (t : Hash32). is_script_among t xs) (sym e) ∙ once.0 in
       let rest : filter (is_of_script (script_number s scripts)) (map (entry_of scripts n) xs) ≡ [] = one_entry scripts n s xs all.1 once.1 ∙ rw none refl in
       rw (h, self, rest) (ap (λ (t : Hash32). entry_of scripts n t ∷ []) e)
   | inr h ↦
@@ -136,7 +136,7 @@ all_listed s scripts front a b n (p ∷ ps) at all =
     let split = filter-append (is_of_script k) (map (entry_of scripts n) (add_scripts [] (concerned_scripts p))) (entries_from scripts (n + 1) ps) in
     let shown = at_txs front t back n k at in
     let more = rw moved at rest in
-    elim (cases_Bool (has_script s (concerned_scripts p))) [
+    elim (cases_Bool (is_script_among s (concerned_scripts p))) [
       | inl h ↦
           let there = gather_has (concerned_scripts p) [] s h in
           let is : concerns s.0 p ≡ true = sym (met_is s p) ∙ h in

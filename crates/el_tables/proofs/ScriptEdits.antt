@@ -5,7 +5,7 @@ use Rattle.std.proofs.lemmas.List.{take_at, take-append-le}
 use Rattle.std.specs.Option.{option_or}
 use Rattle.std.specs.List.{list_any}
 use Rattle.el_base.specs.declared.hash.Hash32.{Hash32}
-use Rattle.el_chain.specs.RowCounts.{has_script, add_script}
+use Rattle.el_chain.specs.RowCounts.{is_script_among, add_script}
 use Rattle.el_tables.specs.Lists.{ListedEntry, Lists, script_number, is_of_script, last_tx_of, is_tx, append_entry, add_entry, balance_of}
 use Rattle.el_tables.specs.ChainLists.{ListedBlock}
 use Rattle.el_tables.specs.Disconnecting.{but_last, last, take_back_entry}
@@ -150,7 +150,7 @@ front_row c i s t ss l lt = let front = take-append-le i ss (t ∷ []) (omega ar
 
 -- 4. A new script
 
-pub touch_new : (l : Lists) (s : Hash32) (tx : ℕ) → has_script s l.scripts ≡ false → list_any (is_of_script (length l.scripts)) l.entries ≡ false
+pub touch_new : (l : Lists) (s : Hash32) (tx : ℕ) → is_script_among s l.scripts ≡ false → list_any (is_of_script (length l.scripts)) l.entries ≡ false
     → add_entry s tx l ≡ record l { scripts = l.scripts ++ s ∷ []; entries = l.entries ++ record { tx = tx; script = length l.scripts } ∷ [] }
 touch_new l s tx new none =
     let n = length l.scripts in
@@ -162,7 +162,7 @@ touch_new l s tx new none =
     ap₂ (λ (a : List Hash32) (b : List ListedEntry). record l { scripts = a; entries = b }) once (ap (λ (k : ℕ). append_entry tx k l.entries) number ∙ added)
 
 pub touch_new_rows : (counts : HeadCounts) (bs : List ListedBlock) (l : Lists) (s : Hash32) (tx : ℕ) → 0 < counts.scripts
-    → has_script s l.scripts ≡ false → list_any (is_of_script (length l.scripts)) l.entries ≡ false → balance_of (length l.scripts) l.outs ≡ 0
+    → is_script_among s l.scripts ≡ false → list_any (is_of_script (length l.scripts)) l.entries ≡ false → balance_of (length l.scripts) l.outs ≡ 0
     → tables_of counts bs (add_entry s tx l) ≡ script_added s tx (tables_of counts bs l)
 touch_new_rows counts bs l s tx some new none empty =
     let c = counts.scripts in
@@ -200,7 +200,7 @@ touch_new_rows counts bs l s tx some new none empty =
 -- 5. A script that is there
 
 pub touch_known_rows : (counts : HeadCounts) (bs : List ListedBlock) (l : Lists) (s : Hash32) (tx : ℕ)
-    → has_script s l.scripts ≡ true → is_tx tx (last_tx_of (script_number s l.scripts) l.entries) ≡ false
+    → is_script_among s l.scripts ≡ true → is_tx tx (last_tx_of (script_number s l.scripts) l.entries) ≡ false
     → tables_of counts bs (add_entry s tx l) ≡ entry_added (script_number s l.scripts) tx (tables_of counts bs l)
 touch_known_rows counts bs l s tx known fresh =
     let c = counts.scripts in
@@ -222,7 +222,7 @@ touch_known_rows counts bs l s tx known fresh =
     ∙ ap₂ (λ (a : List ScriptRow) (b : List EntryRow). record tb { scripts = a; entries = b })
     (scripts ∙ ap (λ (k : ℕ). set tb.scripts n (entered k (row_of n tb))) (sym long)) entries
 
-pub touch_again : (l : Lists) (s : Hash32) (tx : ℕ) → has_script s l.scripts ≡ true → is_tx tx (last_tx_of (script_number s l.scripts) l.entries) ≡ true → add_entry s tx l ≡ l
+pub touch_again : (l : Lists) (s : Hash32) (tx : ℕ) → is_script_among s l.scripts ≡ true → is_tx tx (last_tx_of (script_number s l.scripts) l.entries) ≡ true → add_entry s tx l ≡ l
 touch_again l s tx known old =
     let once : add_script s l.scripts ≡ l.scripts = rw known refl in
     let added : append_entry tx (script_number s l.scripts) l.entries ≡ l.entries = rw old refl in

@@ -5,7 +5,7 @@ use Rattle.std.proofs.lemmas.List.{map-append}
 use Rattle.std.specs.Option.{option_or}
 use Rattle.std.specs.List.{AllByRecursion, flat_map}
 use Rattle.el_base.specs.declared.hash.Hash32.{Hash32}
-use Rattle.el_chain.specs.RowCounts.{has_script, add_script, concerned_scripts, add_scripts}
+use Rattle.el_chain.specs.RowCounts.{is_script_among, add_script, concerned_scripts, add_scripts}
 use Rattle.el_chain.specs.Headers.{same_hash}
 use Rattle.el_chain.proofs.Meters.{gather_joined}
 use Rattle.el_tables.specs.Lists.{ListedEntry, script_number, is_of_script, last_tx_of, is_tx, append_entry}
@@ -16,45 +16,45 @@ pub use Rattle.el_chain.proofs.TouchLemmas.{hash_gives, hash_from}
 -- 1. Numbers
 
 -- a script that is there has a number of its own, which others after leave
-pub number_kept : (s : Hash32) (xs ys : List Hash32) → has_script s xs ≡ true → script_number s (xs ++ ys) ≡ script_number s xs
+pub number_kept : (s : Hash32) (xs ys : List Hash32) → is_script_among s xs ≡ true → script_number s (xs ++ ys) ≡ script_number s xs
 number_kept s [] ys h = absurd (true≢false (sym h))
 number_kept s (x ∷ xs) ys h = elim (cases_Bool (same_hash x s)) [
   | inl e ↦ rw e refl
   | inr e ↦ let rest = rw e at h in rw e (ap suc (number_kept s xs ys rest))
 ]
 
-pub has_more : (s : Hash32) (xs ys : List Hash32) → has_script s xs ≡ true → has_script s (xs ++ ys) ≡ true
+pub has_more : (s : Hash32) (xs ys : List Hash32) → is_script_among s xs ≡ true → is_script_among s (xs ++ ys) ≡ true
 has_more s [] ys h = absurd (true≢false (sym h))
 has_more s (x ∷ xs) ys h = elim (cases_Bool (same_hash x s)) [
   | inl e ↦ rw e refl
   | inr e ↦ let rest = rw e at h in rw e (has_more s xs ys rest)
 ]
 
-pub has_back : (s : Hash32) (xs ys : List Hash32) → has_script s ys ≡ true → has_script s (xs ++ ys) ≡ true
+pub has_back : (s : Hash32) (xs ys : List Hash32) → is_script_among s ys ≡ true → is_script_among s (xs ++ ys) ≡ true
 has_back s [] ys h = h
-has_back s (x ∷ xs) ys h = or_right (same_hash x s) (has_script s (xs ++ ys)) (has_back s xs ys h)
+has_back s (x ∷ xs) ys h = or_right (same_hash x s) (is_script_among s (xs ++ ys)) (has_back s xs ys h)
 
-pub has_last : (s : Hash32) (xs : List Hash32) → has_script s (xs ++ s ∷ []) ≡ true
+pub has_last : (s : Hash32) (xs : List Hash32) → is_script_among s (xs ++ s ∷ []) ≡ true
 has_last s xs = has_back s xs (s ∷ []) (or_left (same_hash s s) false (hash_from s s refl))
 
 -- where it is not there, its number is that of the next
-pub number_last : (s : Hash32) (xs ys : List Hash32) → has_script s xs ≡ false → script_number s (xs ++ s ∷ ys) ≡ length xs
+pub number_last : (s : Hash32) (xs ys : List Hash32) → is_script_among s xs ≡ false → script_number s (xs ++ s ∷ ys) ≡ length xs
 number_last s [] ys h = let e = hash_from s s refl in rw e refl
 number_last s (x ∷ xs) ys h =
-    let parts = or_parts (same_hash x s) (has_script s xs) h in
+    let parts = or_parts (same_hash x s) (is_script_among s xs) h in
     let e = parts.0 in
     let rest = number_last s xs ys parts.1 in
     rw e (ap suc rest)
 
-pub number_next : (s : Hash32) (xs : List Hash32) → has_script s xs ≡ false → script_number s xs ≡ length xs
+pub number_next : (s : Hash32) (xs : List Hash32) → is_script_among s xs ≡ false → script_number s xs ≡ length xs
 number_next s [] h = refl
 number_next s (x ∷ xs) h =
-    let parts = or_parts (same_hash x s) (has_script s xs) h in
+    let parts = or_parts (same_hash x s) (is_script_among s xs) h in
     let e = parts.0 in
     let rest = number_next s xs parts.1 in
     rw e (ap suc rest)
 
-pub number_within : (s : Hash32) (xs : List Hash32) → has_script s xs ≡ true → script_number s xs < length xs
+pub number_within : (s : Hash32) (xs : List Hash32) → is_script_among s xs ≡ true → script_number s xs < length xs
 number_within s [] h = absurd (true≢false (sym h))
 number_within s (x ∷ xs) h = elim (cases_Bool (same_hash x s)) [
   | inl e ↦ rw e (let g : 0 < length (x ∷ xs) = omega arith in g)
@@ -62,7 +62,7 @@ number_within s (x ∷ xs) h = elim (cases_Bool (same_hash x s)) [
 ]
 
 -- the hash of the number
-pub number_at : (s d : Hash32) (xs : List Hash32) → has_script s xs ≡ true → get_or xs (script_number s xs) d ≡ s
+pub number_at : (s d : Hash32) (xs : List Hash32) → is_script_among s xs ≡ true → get_or xs (script_number s xs) d ≡ s
 number_at s d [] h = absurd (true≢false (sym h))
 number_at s d (x ∷ xs) h = elim (cases_Bool (same_hash x s)) [
   | inl e ↦ rw e (hash_gives x s e)
@@ -70,8 +70,8 @@ number_at s d (x ∷ xs) h = elim (cases_Bool (same_hash x s)) [
 ]
 
 -- so numbers tell scripts apart
-pub number_apart : (s t : Hash32) (xs : List Hash32) → has_script t xs ≡ true → script_number t xs ≡ script_number s xs → same_hash t s ≡ false → ⊥
-number_apart s t xs there same apart = elim (cases_Bool (has_script s xs)) [
+pub number_apart : (s t : Hash32) (xs : List Hash32) → is_script_among t xs ≡ true → script_number t xs ≡ script_number s xs → same_hash t s ≡ false → ⊥
+number_apart s t xs there same apart = elim (cases_Bool (is_script_among s xs)) [
   | inl h ↦
       let a = number_at s s xs h in
       let b = number_at t s xs there in
@@ -81,28 +81,28 @@ number_apart s t xs there same apart = elim (cases_Bool (has_script s xs)) [
 ]
 
 -- one more, unless it is there
-pub once_keeps : (s t : Hash32) (xs : List Hash32) → has_script t xs ≡ true → (has_script t (add_script s xs) ≡ true) × (script_number t (add_script s xs) ≡ script_number t xs)
-once_keeps s t xs there = elim (cases_Bool (has_script s xs)) [
+pub once_keeps : (s t : Hash32) (xs : List Hash32) → is_script_among t xs ≡ true → (is_script_among t (add_script s xs) ≡ true) × (script_number t (add_script s xs) ≡ script_number t xs)
+once_keeps s t xs there = elim (cases_Bool (is_script_among s xs)) [
   | inl h ↦ rw h (there, refl)
   | inr h ↦ rw h (has_more t xs (s ∷ []) there, number_kept t xs (s ∷ []) there)
 ]
 
 pub once_longer : (s : Hash32) (xs : List Hash32) → length xs ≤ length (add_script s xs)
-once_longer s xs = by (has_script s xs)
+once_longer s xs = by (is_script_among s xs)
   where
     by : (b : Bool) → length xs ≤ length (cond b xs (xs ++ s ∷ []))
     by true = omega arith
     by false = let long = length-append xs (s ∷ []) in omega arith
 
-pub once_has : (s : Hash32) (xs : List Hash32) → (has_script s (add_script s xs) ≡ true) × (script_number s (add_script s xs) ≡ script_number s xs)
-once_has s xs = elim (cases_Bool (has_script s xs)) [
+pub once_has : (s : Hash32) (xs : List Hash32) → (is_script_among s (add_script s xs) ≡ true) × (script_number s (add_script s xs) ≡ script_number s xs)
+once_has s xs = elim (cases_Bool (is_script_among s xs)) [
   | inl h ↦ rw h (h, refl)
   | inr h ↦ let at = number_last s xs [] h in let next = number_next s xs h in rw h (has_last s xs, at ∙ sym next)
 ]
 
 -- many
-pub gather_keeps : (ss : List Hash32) (t : Hash32) (xs : List Hash32) → has_script t xs ≡ true
-    → (has_script t (add_scripts xs ss) ≡ true) × (script_number t (add_scripts xs ss) ≡ script_number t xs)
+pub gather_keeps : (ss : List Hash32) (t : Hash32) (xs : List Hash32) → is_script_among t xs ≡ true
+    → (is_script_among t (add_scripts xs ss) ≡ true) × (script_number t (add_scripts xs ss) ≡ script_number t xs)
 gather_keeps [] t xs there = (there, refl)
 gather_keeps (s ∷ ss) t xs there =
     let one = once_keeps s t xs there in
@@ -110,30 +110,30 @@ gather_keeps (s ∷ ss) t xs there =
     (rest.0, rest.1 ∙ one.1)
 
 -- each of them is then there
-pub gather_has : (ss : List Hash32) (xs : List Hash32) (t : Hash32) → has_script t ss ≡ true → has_script t (add_scripts xs ss) ≡ true
+pub gather_has : (ss : List Hash32) (xs : List Hash32) (t : Hash32) → is_script_among t ss ≡ true → is_script_among t (add_scripts xs ss) ≡ true
 gather_has [] xs t h = absurd (true≢false (sym h))
 gather_has (s ∷ ss) xs t h = elim (cases_Bool (same_hash s t)) [
   | inl e ↦
-      let one : has_script t (add_script s xs) ≡ true = ap (λ (u : Hash32). has_script u (add_script s xs)) (sym (hash_gives s t e)) ∙ (once_has s xs).0 in
+      let one : is_script_among t (add_script s xs) ≡ true = ap (λ (u : Hash32). is_script_among u (add_script s xs)) (sym (hash_gives s t e)) ∙ (once_has s xs).0 in
       (gather_keeps ss t (add_script s xs) one).0
   | inr e ↦ let rest = rw e at h in gather_has ss (add_script s xs) t rest
 ]
 
 -- and no others
-pub gather_only : (ss : List Hash32) (xs : List Hash32) (t : Hash32) → has_script t xs ≡ false → has_script t ss ≡ false → has_script t (add_scripts xs ss) ≡ false
+pub gather_only : (ss : List Hash32) (xs : List Hash32) (t : Hash32) → is_script_among t xs ≡ false → is_script_among t ss ≡ false → is_script_among t (add_scripts xs ss) ≡ false
 gather_only [] xs t h none = h
 gather_only (s ∷ ss) xs t h none =
-    let parts = or_parts (same_hash s t) (has_script t ss) none in
+    let parts = or_parts (same_hash s t) (is_script_among t ss) none in
     gather_only ss (add_script s xs) t (one parts.0) parts.1
   where
-    snoc : (ys : List Hash32) → has_script t ys ≡ false → same_hash s t ≡ false → has_script t (ys ++ s ∷ []) ≡ false
+    snoc : (ys : List Hash32) → is_script_among t ys ≡ false → same_hash s t ≡ false → is_script_among t (ys ++ s ∷ []) ≡ false
     snoc [] f e = or_from (same_hash s t) false e refl
     snoc (y ∷ ys) f e =
-        let parts = or_parts (same_hash y t) (has_script t ys) f in
-        or_from (same_hash y t) (has_script t (ys ++ s ∷ [])) parts.0 (snoc ys parts.1 e)
+        let parts = or_parts (same_hash y t) (is_script_among t ys) f in
+        or_from (same_hash y t) (is_script_among t (ys ++ s ∷ [])) parts.0 (snoc ys parts.1 e)
 
-    one : same_hash s t ≡ false → has_script t (add_script s xs) ≡ false
-    one e = elim (cases_Bool (has_script s xs)) [
+    one : same_hash s t ≡ false → is_script_among t (add_script s xs) ≡ false
+    one e = elim (cases_Bool (is_script_among s xs)) [
       | inl g ↦ rw g h
       | inr g ↦ rw g (snoc xs h e)
     ]
@@ -141,23 +141,23 @@ gather_only (s ∷ ss) xs t h none =
 -- 2. All of some are there
 
 abbrev pub AllIn : List Hash32 → List Hash32 → Type 0
-AllIn xs ss = AllByRecursion (λ t. has_script t xs ≡ true) ss
+AllIn xs ss = AllByRecursion (λ t. is_script_among t xs ≡ true) ss
 
-pub all_from : (xs ss : List Hash32) → ((t : Hash32) → has_script t ss ≡ true → has_script t xs ≡ true) → AllIn xs ss
+pub all_from : (xs ss : List Hash32) → ((t : Hash32) → is_script_among t ss ≡ true → is_script_among t xs ≡ true) → AllIn xs ss
 all_from xs [] h = tt
 all_from xs (s ∷ ss) h =
-    (h s (or_left (same_hash s s) (has_script s ss) (hash_from s s refl)), all_from xs ss (λ t e. h t (or_right (same_hash s t) (has_script t ss) e)))
+    (h s (or_left (same_hash s s) (is_script_among s ss) (hash_from s s refl)), all_from xs ss (λ t e. h t (or_right (same_hash s t) (is_script_among t ss) e)))
 
-pub all_has : (xs ss : List Hash32) (t : Hash32) → AllIn xs ss → has_script t ss ≡ true → has_script t xs ≡ true
+pub all_has : (xs ss : List Hash32) (t : Hash32) → AllIn xs ss → is_script_among t ss ≡ true → is_script_among t xs ≡ true
 all_has xs [] t all h = absurd (true≢false (sym h))
 all_has xs (s ∷ ss) t all h = elim (cases_Bool (same_hash s t)) [
-  | inl e ↦ ap (λ (u : Hash32). has_script u xs) (sym (hash_gives s t e)) ∙ all.0
+  | inl e ↦ ap (λ (u : Hash32). is_script_among u xs) (sym (hash_gives s t e)) ∙ all.0
   | inr e ↦ let rest = rw e at h in all_has xs ss t all.1 rest
 ]
 
 -- what is gathered is of what was handed in
-pub gathered : (ss : List Hash32) (t : Hash32) → has_script t (add_scripts [] ss) ≡ true → has_script t ss ≡ true
-gathered ss t h = elim (cases_Bool (has_script t ss)) [
+pub gathered : (ss : List Hash32) (t : Hash32) → is_script_among t (add_scripts [] ss) ≡ true → is_script_among t ss ≡ true
+gathered ss t h = elim (cases_Bool (is_script_among t ss)) [
   | inl e ↦ e
   | inr e ↦ absurd (true≢false (sym h ∙ gather_only ss [] t refl e))
 ]
@@ -204,7 +204,7 @@ last_of_one scripts m j (s ∷ ss) = by (last_of_one scripts m j ss)
       | inr k ↦ inr (rw (h, k) refl)
     ]
 
-last_met : (scripts : List Hash32) (m : ℕ) (s : Hash32) (ss : List Hash32) → has_script s ss ≡ true
+last_met : (scripts : List Hash32) (m : ℕ) (s : Hash32) (ss : List Hash32) → is_script_among s ss ≡ true
     → last_tx_of (script_number s scripts) (map (entry_of scripts m) ss) ≡ Some m
 last_met scripts m s [] h = absurd (true≢false (sym h))
 last_met scripts m s (x ∷ xs) h = elim (cases_Bool (same_hash x s)) [
@@ -219,11 +219,11 @@ last_met scripts m s (x ∷ xs) h = elim (cases_Bool (same_hash x s)) [
         let same : (script_number x scripts == script_number s scripts) ≡ true = eq-eqb (script_number x scripts) (script_number s scripts) (ap (λ (t : Hash32). script_number t scripts) (hash_gives x s e)) in
         rw (k, same) refl
 
-last_unmet : (scripts : List Hash32) (m : ℕ) (s : Hash32) (ss : List Hash32) → AllIn scripts ss → has_script s ss ≡ false
+last_unmet : (scripts : List Hash32) (m : ℕ) (s : Hash32) (ss : List Hash32) → AllIn scripts ss → is_script_among s ss ≡ false
     → last_tx_of (script_number s scripts) (map (entry_of scripts m) ss) ≡ None
 last_unmet scripts m s [] all h = refl
 last_unmet scripts m s (x ∷ xs) all h =
-    let parts = or_parts (same_hash x s) (has_script s xs) h in
+    let parts = or_parts (same_hash x s) (is_script_among s xs) h in
     let more = last_unmet scripts m s xs all.1 parts.1 in
     let apart : (script_number x scripts == script_number s scripts) ≡ false =
     ne_eqb (script_number x scripts) (script_number s scripts) (λ e. number_apart s x scripts all.0 e parts.0) in
@@ -231,7 +231,7 @@ last_unmet scripts m s (x ∷ xs) all h =
 
 -- numbers that stay
 abbrev pub Keeps : List Hash32 → List Hash32 → Type 0
-Keeps xs ys = (t : Hash32) → has_script t xs ≡ true → script_number t ys ≡ script_number t xs
+Keeps xs ys = (t : Hash32) → is_script_among t xs ≡ true → script_number t ys ≡ script_number t xs
 
 pub entries_kept : (xs ys : List Hash32) (m : ℕ) (ss : List Hash32) → Keeps xs ys → AllIn xs ss → map (entry_of ys m) ss ≡ map (entry_of xs m) ss
 entries_kept xs ys m [] keeps all = refl
@@ -243,7 +243,7 @@ entries_kept xs ys m (s ∷ ss) keeps all =
 -- one add_entry
 touch_one : (scripts : List Hash32) (m : ℕ) (s : Hash32) (ss : List Hash32) (es : List ListedEntry) → NoTx m es → AllIn scripts ss
     → append_entry m (script_number s scripts) (es ++ map (entry_of scripts m) ss) ≡ es ++ map (entry_of (add_script s scripts) m) (add_script s ss)
-touch_one scripts m s ss es none all = elim (cases_Bool (has_script s ss)) [
+touch_one scripts m s ss es none all = elim (cases_Bool (is_script_among s ss)) [
   | inl h ↦
       let there = all_has scripts ss s all h in
       let met_last = last_met scripts m s ss h in

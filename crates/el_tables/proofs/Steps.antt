@@ -7,7 +7,7 @@ use Rattle.el_base.specs.declared.hash.Hash32.{Hash32}
 use Rattle.el_tx.specs.declared.types.Outpoint.{Outpoint}
 use Rattle.el_tx.specs.declared.types.TxIn.{TxIn}
 use Rattle.el_tx.specs.declared.types.TxOut.{TxOut}
-use Rattle.el_chain.specs.RowCounts.{has_script, add_script, output_script, add_scripts}
+use Rattle.el_chain.specs.RowCounts.{is_script_among, add_script, output_script, add_scripts}
 use Rattle.el_chain.specs.declared.coin.Coin.{Coin}
 use Rattle.el_chain.specs.Chains.{zero_hash}
 use Rattle.el_chain.specs.Coins.{is_coin_of, without, coin_made}
@@ -16,7 +16,7 @@ use Rattle.el_chain.specs.Faults.{has_coin, missing_input}
 use Rattle.el_tables.specs.Lists.{ListedTx, ListedOut, ListedEntry, Lists, State, is_unspent, output_number, unspent_at, with_state, script_at, coin_number, if_unspent, script_number, append_entry, add_entry, spend_output, bury}
 use Rattle.el_tables.specs.Lists.State.{Spent, Buried}
 use Rattle.el_tables.specs.ChainLists.{Output, output, listed_out, spent_numbers}
-use Rattle.el_prepare.specs.Prepared.{paid}
+use Rattle.el_prepare.specs.Prepared.{value_and_script}
 use Rattle.el_tables.specs.Connecting.{script_of_output, spend_all, fund, fund_all}
 use Rattle.el_tables.proofs.Outputs.{coins_of}
 use Rattle.el_tables.proofs.Names.{NamesBy, Names, settle, settle_none, settle_at, names_settled, coins_settled, Found, none_coins, found, at_within, dead_at}
@@ -26,7 +26,7 @@ use Rattle.el_tables.proofs.Scripts.{Keeps, once_keeps, once_has, number_at, tou
 
 -- the script of each output is there
 abbrev pub AllHave : List Hash32 → List Output → Type 0
-AllHave scripts xs = AllByRecursion (λ (x : Output). has_script x.coin.script scripts ≡ true) xs
+AllHave scripts xs = AllByRecursion (λ (x : Output). is_script_among x.coin.script scripts ≡ true) xs
 
 pub have_settled : (s : State) (o : Outpoint) (scripts : List Hash32) (xs : List Output) → AllHave scripts xs → AllHave scripts (map (settle s o) xs)
 have_settled s o scripts [] h = tt
@@ -57,22 +57,22 @@ listed_kept a b (x ∷ xs) keeps h =
     rw (one, rest) refl
 
 -- so does the script of each coin
-pub coins_have : (scripts : List Hash32) (xs : List Output) → AllHave scripts xs → AllByRecursion (λ (c : Coin). has_script c.script scripts ≡ true) (coins_of xs)
+pub coins_have : (scripts : List Hash32) (xs : List Output) → AllHave scripts xs → AllByRecursion (λ (c : Coin). is_script_among c.script scripts ≡ true) (coins_of xs)
 coins_have scripts [] h = tt
 coins_have scripts (x ∷ xs) h = elim (cases_Bool (is_unspent x.state)) [
   | inl u ↦ rw u (h.0, coins_have scripts xs h.1)
   | inr u ↦ rw u (coins_have scripts xs h.1)
 ]
 
-pub filter_have : (scripts : List Hash32) (test : Coin → Bool) (cs : List Coin) → AllByRecursion (λ (c : Coin). has_script c.script scripts ≡ true) cs
-    → AllByRecursion (λ (c : Coin). has_script c.script scripts ≡ true) (filter test cs)
+pub filter_have : (scripts : List Hash32) (test : Coin → Bool) (cs : List Coin) → AllByRecursion (λ (c : Coin). is_script_among c.script scripts ≡ true) cs
+    → AllByRecursion (λ (c : Coin). is_script_among c.script scripts ≡ true) (filter test cs)
 filter_have scripts test [] h = tt
 filter_have scripts test (c ∷ cs) h = elim (cases_Bool (test c)) [
   | inl e ↦ rw e (h.0, filter_have scripts test cs h.1)
   | inr e ↦ rw e (filter_have scripts test cs h.1)
 ]
 
-found_has : (scripts : List Hash32) (o : Outpoint) (xs : List Output) (c : Coin) → AllHave scripts xs → filter (is_coin_of o) (coins_of xs) ≡ c ∷ [] → has_script c.script scripts ≡ true
+found_has : (scripts : List Hash32) (o : Outpoint) (xs : List Output) (c : Coin) → AllHave scripts xs → filter (is_coin_of o) (coins_of xs) ≡ c ∷ [] → is_script_among c.script scripts ≡ true
 found_has scripts o xs c h is =
     let all = filter_have scripts (is_coin_of o) (coins_of xs) (coins_have scripts xs h) in
     let one = rw is at all in
@@ -256,7 +256,7 @@ bury_outputs by id index (o ∷ os) xs = bury_outputs by id (index + 1) os (map 
 
 one_output : (ts : List ListedTx) (t : ListedTx) (height index : ℕ) (o : TxOut) (xs new : List Output) (ins : List ℕ) (scripts : List Hash32) (es : List ListedEntry)
     → Names ts xs → AllHave scripts (xs ++ new)
-    → fund (length ts) index (paid o) (lists_with ts t xs new ins scripts es)
+    → fund (length ts) index (value_and_script o) (lists_with ts t xs new ins scripts es)
     ≡ lists_with ts t (map (settle (Buried (length ts)) (record { txid = t.txid; index = index })) xs) (new ++ output (length ts) [] (coin_made t.txid height index o) ∷ [])
     ins (add_script (output_script o) scripts) (append_entry (length ts) (script_number (output_script o) scripts) es)
 one_output ts t height index o xs new ins scripts es names have =
@@ -278,7 +278,7 @@ one_output ts t height index o xs new ins scripts es names have =
 
 pub fund_all_is : (os : List TxOut) (index height : ℕ) (ts : List ListedTx) (t : ListedTx) (xs new : List Output) (ins : List ℕ) (scripts : List Hash32) (es : List ListedEntry)
     → Names ts xs → AllHave scripts (xs ++ new)
-    → fund_all (length ts) index (map paid os) (lists_with ts t xs new ins scripts es)
+    → fund_all (length ts) index (map value_and_script os) (lists_with ts t xs new ins scripts es)
     ≡ lists_with ts t (bury_outputs (length ts) t.txid index os xs) (new ++ map (output (length ts) []) (coins_made t.txid height index os))
     ins (add_scripts scripts (map output_script os)) (touched (length ts) scripts (map output_script os) es)
 fund_all_is [] index height ts t xs new ins scripts es names have = ap (λ (l : List Output). lists_with ts t xs l ins scripts es) (sym (append-nil new))
@@ -294,7 +294,7 @@ fund_all_is (o ∷ os) index height ts t xs new ins scripts es names have =
     let back = have_joined more new (fresh ∷ []) (have_back more xs new all) ((once_has (output_script o) scripts).0, tt) in
     let rest = fund_all_is os (index + 1) height ts t left (new ++ fresh ∷ []) ins more fs (names_settled (Buried m) point ts xs refl names)
     (have_joined more left (new ++ fresh ∷ []) front back) in
-    ap (fund_all m (index + 1) (map paid os)) (one_output ts t height index o xs new ins scripts es names have)
+    ap (fund_all m (index + 1) (map value_and_script os)) (one_output ts t height index o xs new ins scripts es names have)
     ∙ rest
     ∙ ap (λ (l : List Output). lists_with ts t (bury_outputs m t.txid (index + 1) os left) l ins (add_scripts more (map output_script os)) (touched m more (map output_script os) fs))
     (append_assoc new (fresh ∷ []) (map (output m []) (coins_made t.txid height (index + 1) os)))

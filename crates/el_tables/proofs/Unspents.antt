@@ -9,7 +9,7 @@ use Rattle.el_base.specs.declared.hash.Hash32.{Hash32}
 use Rattle.el_tx.specs.declared.types.Outpoint.{Outpoint}
 use Rattle.el_tx.specs.declared.types.TxOut.{TxOut}
 use Rattle.el_tx.specs.Hashing.{txid}
-use Rattle.el_chain.specs.RowCounts.{has_script, spending_inputs, concerned_scripts, add_scripts, output_script, spent_scripts}
+use Rattle.el_chain.specs.RowCounts.{is_script_among, spending_inputs, concerned_scripts, add_scripts, output_script, spent_scripts}
 use Rattle.el_chain.specs.declared.coin.Coin.{Coin}
 use Rattle.el_chain.specs.Chains.{Chain, zero_hash}
 use Rattle.el_chain.specs.Coins.{coins, coin_made}
@@ -52,11 +52,11 @@ among s l n ps id height i (o ∷ os) at all =
           rw (none, u) rest
     ]
 
-none_own : (s : Hash32) (n : ℕ) (ps : List Position) (id : Hash32) (height i : ℕ) (os : List TxOut) → has_script s (map output_script os) ≡ false
+none_own : (s : Hash32) (n : ℕ) (ps : List Position) (id : Hash32) (height i : ℕ) (os : List TxOut) → is_script_among s (map output_script os) ≡ false
     → own_coins s.0 (coins_of (map (output n ps) (coins_made id height i os))) ≡ []
 none_own s n ps id height i [] h = refl
 none_own s n ps id height i (o ∷ os) h =
-    let parts = or_parts (same_hash (output_script o) s) (has_script s (map output_script os)) h in
+    let parts = or_parts (same_hash (output_script o) s) (is_script_among s (map output_script os)) h in
     let rest = none_own s n ps id height (i + 1) os parts.1 in
     let apart = parts.0 in
     let point : Outpoint = record { txid = id; index = i } in
@@ -65,9 +65,9 @@ none_own s n ps id height i (o ∷ os) h =
       | inr u ↦ rw u rest
     ]
 
-back_none : (s : Hash32) (xs ys : List Hash32) → has_script s (xs ++ ys) ≡ false → has_script s ys ≡ false
+back_none : (s : Hash32) (xs ys : List Hash32) → is_script_among s (xs ++ ys) ≡ false → is_script_among s ys ≡ false
 back_none s [] ys h = h
-back_none s (x ∷ xs) ys h = back_none s xs ys (or_parts (same_hash x s) (has_script s (xs ++ ys)) h).1
+back_none s (x ∷ xs) ys h = back_none s xs ys (or_parts (same_hash x s) (is_script_among s (xs ++ ys)) h).1
 
 own_joined : (script : List ℕ) (cs ds : List Coin) → own_coins script (cs ++ ds) ≡ own_coins script cs ++ own_coins script ds
 own_joined script cs ds = filter-append (λ (c : Coin). bytes_eq c.script.0 script) cs ds
@@ -126,7 +126,7 @@ unspent_from s l front before a b n (p ∷ ps) et eo at long all =
     let first_is : first_out_at n l.txs ≡ a = ap (first_out_at n) et ∙ fa in
     let outs_are : outs_at n l.txs ≡ length p.tx.outputs = ap (outs_at n) et ∙ oa in
     let id_is : txid_at n l.txs ≡ txid p.tx = ap (txid_at n) et ∙ ia in
-    elim (cases_Bool (has_script s (concerned_scripts p))) [
+    elim (cases_Bool (is_script_among s (concerned_scripts p))) [
       | inl h ↦
           let there = gather_has (concerned_scripts p) [] s h in
           let found : filter (is_of_script k) (map (entry_of l.scripts n) (add_scripts [] (concerned_scripts p))) ≡ entry_of l.scripts n s ∷ [] = one ∙ rw there refl in

@@ -24,8 +24,8 @@ abbrev pub pays : ℕ → ℕ → TxOut
 pays value script = record { value = value; script = script ∷ [] }
 
 -- an input that spends an outpoint, without script and witness
-abbrev pub spends : Outpoint → TxIn
-spends o = record { from = o; script = []; sequence = 0; witness = [] }
+abbrev pub input_from : Outpoint → TxIn
+input_from o = record { from = o; script = []; sequence = 0; witness = [] }
 
 -- a transaction of one input and these outputs
 abbrev pub tx_with : TxIn → List TxOut → Tx
@@ -37,15 +37,15 @@ first_of t = record { txid = txid t; index = 0 }
 
 -- A, a coinbase of 61 bytes: it pays 50 to P
 abbrev pub tx_a : Tx
-tx_a = tx_with (spends no_outpoint) (pays 50 81 ∷ [])
+tx_a = tx_with (input_from no_outpoint) (pays 50 81 ∷ [])
 
 -- B, of 71 bytes: it spends the output of the second A, and pays 20 to P and 30 to Q
 abbrev pub tx_b : Tx
-tx_b = tx_with (spends (first_of tx_a)) (pays 20 81 ∷ pays 30 82 ∷ [])
+tx_b = tx_with (input_from (first_of tx_a)) (pays 20 81 ∷ pays 30 82 ∷ [])
 
 -- C, of 61 bytes: it spends the first output of B, and pays 20 to R
 abbrev pub tx_c : Tx
-tx_c = tx_with (spends (first_of tx_b)) (pays 20 83 ∷ [])
+tx_c = tx_with (input_from (first_of tx_b)) (pays 20 83 ∷ [])
 
 -- The script hash of P. Of two buckets, that of the txid of A is 0, those of B and C are 1; those of P and Q
 -- are 0, that of R is 1.
@@ -61,8 +61,8 @@ abbrev pub hash_r : Hash32
 hash_r = output_script (pays 0 83)
 
 -- a header; only its nonce matters here
-abbrev pub header : ℕ → Header
-header nonce = record {
+abbrev pub header_with_nonce : ℕ → Header
+header_with_nonce nonce = record {
   version = pos 1;
   previous = zero_hash;
   root = zero_hash;
@@ -75,11 +75,11 @@ header nonce = record {
 abbrev pub example_chain : Chain
 example_chain =
     record {
-      block = record { header = header 0; txs = tx_a ∷ [] };
+      block = record { header = header_with_nonce 0; txs = tx_a ∷ [] };
       place = record { file = 0; offset = 0; len = 142 };
     }
     ∷ record {
-      block = record { header = header 1; txs = tx_a ∷ tx_b ∷ tx_c ∷ [] };
+      block = record { header = header_with_nonce 1; txs = tx_a ∷ tx_b ∷ tx_c ∷ [] };
       place = record { file = 0; offset = 150; len = 274 };
     }
     ∷ []
@@ -135,14 +135,14 @@ abbrev pub example_tables : Tables
 example_tables = record {
   blocks =
       record {
-        header = header_encoding (header 0);
+        header = header_encoding (header_with_nonce 0);
         place = record { file = 0; offset = 0; len = 142 };
         first_tx = 0;
         txs = 1;
         sum = 50;
       }
       ∷ record {
-        header = header_encoding (header 1);
+        header = header_encoding (header_with_nonce 1);
         place = record { file = 0; offset = 150; len = 274 };
         first_tx = 1;
         txs = 3;

@@ -3,13 +3,13 @@
 use Rattle.std.specs.Prelude.{◌≡◌, ℕ, suc, ◌<◌, ◌≤◌, ◌==◌, List, [], ◌∷◌, length, if◌then◌else◌, false, ⊤}
 use Rattle.std.specs.List.{AllByRecursion}
 use Rattle.el_base.specs.declared.hash.Hash32.{Hash32}
-use Rattle.el_chain.specs.RowCounts.{has_script}
+use Rattle.el_chain.specs.RowCounts.{is_script_among}
 use Rattle.el_tables.specs.Lists.{ListedOut, ListedEntry, Lists}
 
 -- no script hash is there twice
 abbrev pub Once : List Hash32 → Type 0
 Once [] = ⊤
-Once (s ∷ ss) = (has_script s ss ≡ false) × Once ss
+Once (s ∷ ss) = (is_script_among s ss ≡ false) × Once ss
 
 -- how many script hashes have an entry after one more, which may be the first of the next script hash
 abbrev pub after_entry : ℕ → ListedEntry → ℕ

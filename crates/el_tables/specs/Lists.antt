@@ -164,8 +164,8 @@ abbrev pub spend_output : ℕ → ℕ → Lists → Lists
 spend_output by k l = record l { outs = with_state (Spent by) k l.outs; ins = l.ins ++ k ∷ [] }
 
 -- the transaction of that number spends the outpoint's coin; None where the outpoint has none
-abbrev pub spend : Outpoint → ℕ → Lists → Option Lists
-spend o by l = option_map (λ k. spend_output by k l) (coin_number o l.txs l.outs)
+abbrev pub spend_outpoint : Outpoint → ℕ → Lists → Option Lists
+spend_outpoint o by l = option_map (λ k. spend_output by k l) (coin_number o l.txs l.outs)
 
 -- the transaction of the first number buries the output of the second, if there is one
 abbrev pub bury : ℕ → Option ℕ → List ListedOut → List ListedOut

@@ -3,7 +3,7 @@ ghost use Rattle.std.specs.Prelude.{◌≡◌, ◌<◌, ◌+◌, ℕ, List, Opti
 ghost use Rattle.el_base.specs.declared.hash.Hash32 as hash;
 ghost use Rattle.el_chain.specs.Chains.{Chain};
 ghost use Rattle.el_chain.specs.Headers.{same_hash};
-ghost use Rattle.el_chain.specs.RowCounts.{has_script};
+ghost use Rattle.el_chain.specs.RowCounts.{is_script_among};
 ghost use Rattle.el_tables.specs.Lists as spec;
 ghost use Rattle.el_tables.specs.ChainLists.{ListedBlock, lists};
 ghost use Rattle.el_tables.specs.Disconnecting.{but_last, last, unbury, named_before, take_back_tx, take_back_entry, take_back_output, unspend};
@@ -40,19 +40,19 @@ pub fn take_back_tx_edits_rows()
 /// transaction of its last entry is that of the entry which the row's `last` names.
 pub fn add_entry_edits_rows()
     ensures new { (counts : HeadCounts) (bs : List ListedBlock) (l : spec.Lists) (s : hash.Hash32) (tx : ℕ) →
-        Fits l → 0 < counts.scripts → has_script s l.scripts ≡ false
+        Fits l → 0 < counts.scripts → is_script_among s l.scripts ≡ false
         → tables_of counts bs (spec.add_entry s tx l) ≡ edit.script_added s tx (tables_of counts bs l) }
     ensures known { (counts : HeadCounts) (bs : List ListedBlock) (l : spec.Lists) (s : hash.Hash32) (tx : ℕ)
-        → has_script s l.scripts ≡ true
+        → is_script_among s l.scripts ≡ true
         → spec.is_tx tx (spec.last_tx_of (spec.script_number s l.scripts) l.entries) ≡ false
         → tables_of counts bs (spec.add_entry s tx l)
         ≡ edit.entry_added (spec.script_number s l.scripts) tx (tables_of counts bs l) }
-    ensures again { (l : spec.Lists) (s : hash.Hash32) (tx : ℕ) → has_script s l.scripts ≡ true
+    ensures again { (l : spec.Lists) (s : hash.Hash32) (tx : ℕ) → is_script_among s l.scripts ≡ true
         → spec.is_tx tx (spec.last_tx_of (spec.script_number s l.scripts) l.entries) ≡ true
         → spec.add_entry s tx l ≡ l }
     ensures number { (s : hash.Hash32) (scripts : List hash.Hash32) → Once scripts
         → greatest (λ (x : hash.Hash32). same_hash x s) scripts
-        ≡ (if has_script s scripts then Some (spec.script_number s scripts) else None) }
+        ≡ (if is_script_among s scripts then Some (spec.script_number s scripts) else None) }
     ensures by_last { (d : spec.ListedEntry) (n : ℕ) (es : List spec.ListedEntry) →
         spec.last_tx_of n es ≡ edit.tx_of_last d es (greatest (spec.is_of_script n) es) }
 {}

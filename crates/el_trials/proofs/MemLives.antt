@@ -4,22 +4,22 @@ use Rattle.el_outside.specs.Disk.{Image}
 use Rattle.el_outside.specs.Images.{Kept, IsImage}
 use Rattle.el_outside.proofs.Images.{left_now, only_now}
 use Rattle.el_mem_disk.specs.DiskFiles.{FileState, IsSound, crashed}
-use Rattle.el_mem_disk.specs.Disks.{state_of, kept_in, seen_on, moment_of, left_on}
+use Rattle.el_mem_disk.specs.Disks.{disk_state, kept_in, seen_on, moment_of, left_on}
 use Rattle.el_mem_disk.specs.declared.disk.MemDisk.{MemDisk}
 
 module _ (before next : MemDisk) (numbers : List ℕ)
-    (is : (state_of next).files ≡ crashed (state_of before).files numbers) where
-  same_kept : (f : ℕ) → ((state_of next).files f).kept ≡ ((state_of before).files f).kept
+    (is : (disk_state next).files ≡ crashed (disk_state before).files numbers) where
+  same_kept : (f : ℕ) → ((disk_state next).files f).kept ≡ ((disk_state before).files f).kept
   same_kept f = ap (λ (files : ℕ → FileState). (files f).kept) is
 
   -- it reads as one of the images
-  pub crash_reads : ((f : ℕ) → IsSound ((state_of next).files f))
+  pub crash_reads : ((f : ℕ) → IsSound ((disk_state next).files f))
       → left_on before (moment_of before) (seen_on next)
-  crash_reads sound = left_now (kept_in (state_of before).files) (state_of before).past (seen_on next)
+  crash_reads sound = left_now (kept_in (disk_state before).files) (disk_state before).past (seen_on next)
       (λ f. subst (λ (kept : Kept). IsImage kept (seen_on next f)) (same_kept f) (sound f).image)
 
   -- and has no others
   pub crash_images : (c : Image) → left_on next (moment_of next) c → left_on before (moment_of before) c
-  crash_images c left = left_now (kept_in (state_of before).files) (state_of before).past c
+  crash_images c left = left_now (kept_in (disk_state before).files) (disk_state before).past c
       (λ f. subst (λ (kept : Kept). IsImage kept (c f)) (same_kept f)
-      (only_now (kept_in (state_of next).files) (state_of next).past c left f))
+      (only_now (kept_in (disk_state next).files) (disk_state next).past c left f))

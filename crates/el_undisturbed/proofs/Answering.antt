@@ -61,7 +61,7 @@ some_is e = cc
 module _ (tells : Type 0) (side : Side) (sure : IsSure side) (told' : tells) (has : (c : Call) → HasAsked side.files side.chain c) where
   -- one call
   given_as : (c : Call) (s t : Session) (given : Result Data Stop) (told : Result Data Refusal) → IsGiven tells side c s t given
-      → told_of given ≡ Some told → losses_of given ≡ [] → defined.IsTold (replied side.chain side.kept side.found s c) s told t
+      → told_of given ≡ Some told → losses_of given ≡ [] → defined.IsToldAsDefined (replied side.chain side.kept side.found s c) s told t
   given_as c s t (Ok a) told g is none = rw (g.of_files (sure, told', has c)) (some_is is, refl)
   given_as c s t (Err (stop.Refused r)) told g is none =
       let d = g.of_files (sure, told', has c) in

@@ -16,9 +16,10 @@ use Rattle.el_sessions.specs.declared.session.Session.{Session}
 use Rattle.el_side.specs.Side.{Side}
 
 -- the client is told what is defined of a call, and is kept so
-abbrev pub IsTold : Result (Data × Session) Refusal → Session → Result Data Refusal → Session → Type 0
-IsTold (Ok (answer, kept)) s told t = (told ≡ Ok answer) × (t ≡ kept)
-IsTold (Err r) s told t = (told ≡ Err r) × (t ≡ s)
+abbrev pub IsToldAsDefined : Result (Data × Session) Refusal → Session → Result Data Refusal → Session
+    → Type 0
+IsToldAsDefined (Ok (answer, kept)) s told t = (told ≡ Ok answer) × (t ≡ kept)
+IsToldAsDefined (Err r) s told t = (told ≡ Err r) × (t ≡ s)
 
 -- The request is answered over the side as it is defined, and nothing is lost.
 pub data AnswersAsDefined (side : Side) (before : Spent) (r : Request) (s : Session)
@@ -28,7 +29,7 @@ pub data AnswersAsDefined (side : Side) (before : Spent) (r : Request) (s : Sess
       → AnswersAsDefined side before r s told after t
   -- it asks for this call
   asked : (c : Call) → IsCalled r.method r.params (Ok c) → raw_tx_of c ≡ None
-      → IsTold (replied side.chain side.kept side.found s c) s told t → after ≡ before
+      → IsToldAsDefined (replied side.chain side.kept side.found s c) s told t → after ≡ before
       → AnswersAsDefined side before r s told after t
   -- it asks for a broadcast of these bytes, and no call of the relay fails
   broadcast : (c : Call) (bytes : List ℕ) (by : Result Hash32 OfferFault)

@@ -1,6 +1,6 @@
 // The last block is taken back.
 ghost use Rattle.std.specs.Prelude.{◌≡◌, ◌≢◌, ◌↔◌, ◌⊎◌, ◌<◌, ◌≤◌, ◌+◌, ◌-◌, ◌++◌, ◌∷◌, [], ℕ, List, length, OnOk, IfErr};
-ghost use Rattle.el_rows.specs.Transaction.{tables_in, EditsRows, EditsAlone};
+ghost use Rattle.el_rows.specs.Transaction.{with_edits, EditsRows, EditsAlone};
 ghost use Rattle.el_row_formats.specs.declared.table.Table.{Table};
 ghost use Rattle.el_chain.specs.Chains.{Chain};
 ghost use Rattle.el_chain.specs.declared.placed.Placed as shape;
@@ -26,10 +26,10 @@ fn query_fault(fault: ConnectFault) -> QueryFault
 
 // The last block's row goes, of so many that are left.
 fn drop_block<R: Rows>(t: &mut Txn<'_, R>, left: u64)
-    requires left { length (tables_in t.old Table.Blocks) ≡ left + 1 }
-    ensures chain { (heads : ℕ) (chain : Chain) (b : shape.Placed) → LacksTxs heads (tables_in t.old) chain b
-        → StandWith heads (tables_in t.new) chain }
-    ensures fewer { length (tables_in t.new Table.Blocks) ≡ left }
+    requires left { length (with_edits t.old Table.Blocks) ≡ left + 1 }
+    ensures chain { (heads : ℕ) (chain : Chain) (b : shape.Placed) → LacksTxs heads (with_edits t.old) chain b
+        → StandWith heads (with_edits t.new) chain }
+    ensures fewer { length (with_edits t.new Table.Blocks) ≡ left }
     ensures alone { EditsAlone t.old t.new }
 {
     t.shrink(Table::Blocks, left);
@@ -46,13 +46,13 @@ fn drop_block<R: Rows>(t: &mut Txn<'_, R>, left: u64)
 pub fn disconnect<R: Rows>(t: &mut Txn<'_, R>) -> Result<(), QueryFault>
     requires live { R.is_live t.old.rows.now }
     ensures disconnected { (heads : ℕ) (chain : Chain) (b : shape.Placed) → R.tells
-        → StandWith heads (tables_in t.old) (chain ++ b ∷ [])
-        → OnOk result (StandWith heads (tables_in t.new) chain) }
+        → StandWith heads (with_edits t.old) (chain ++ b ∷ [])
+        → OnOk result (StandWith heads (with_edits t.new) chain) }
     // What follows holds over any rows.
-    ensures none { length (tables_in t.old Table.Blocks) ≡ 0
-        → OnOk result (tables_in t.new ≡ tables_in t.old) }
-    ensures fewer { OnOk result (length (tables_in t.new Table.Blocks)
-        ≡ length (tables_in t.old Table.Blocks) - 1) }
+    ensures none { length (with_edits t.old Table.Blocks) ≡ 0
+        → OnOk result (with_edits t.new ≡ with_edits t.old) }
+    ensures fewer { OnOk result (length (with_edits t.new Table.Blocks)
+        ≡ length (with_edits t.old Table.Blocks) - 1) }
     ensures edits { EditsRows QueryFault.DiskFailed t.old t.new result }
 {
     let count = t.count(Table::Blocks);

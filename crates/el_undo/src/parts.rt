@@ -1,6 +1,6 @@
 // The parts of the last transaction are taken back: its outputs, its inputs and its entries.
 ghost use Rattle.std.specs.Prelude.{◌≡◌, ◌≢◌, ◌⊎◌, ◌<◌, ◌≤◌, ◌+◌, ℕ, List, length, OnOk, IfErr};
-ghost use Rattle.el_rows.specs.Transaction.{tables_in, EditsRows};
+ghost use Rattle.el_rows.specs.Transaction.{with_edits, EditsRows};
 ghost use Rattle.el_row_formats.specs.declared.table.Table.{Table};
 ghost use Rattle.el_tables.specs.ChainLists.{ListedBlock};
 ghost use Rattle.el_tables.specs.Disconnecting as back;
@@ -22,10 +22,10 @@ use el_spend::{take_back_out, unspend};
 pub(crate) fn undo_outputs<R: Rows>(t: &mut Txn<'_, R>, count: u32) -> Result<(), ConnectFault>
     requires live { R.is_live t.old.rows.now }
     ensures lists { (counts : HeadCounts) (bs : List ListedBlock) (l : Lists) → R.tells
-        → Hold counts bs l (tables_in t.old) → 0 < counts.txs → FitAfter count back.take_back_output l
-        → OnOk result (Hold counts bs (times count back.take_back_output l) (tables_in t.new)) }
+        → Hold counts bs l (with_edits t.old) → 0 < counts.txs → FitAfter count back.take_back_output l
+        → OnOk result (Hold counts bs (times count back.take_back_output l) (with_edits t.new)) }
     ensures others { (u : Table) → u ≢ Table.Outs → u ≢ Table.Scripts
-        → tables_in t.new u ≡ tables_in t.old u }
+        → with_edits t.new u ≡ with_edits t.old u }
     ensures fault { IfErr result (λ e. (e ≡ ConnectFault.DiskFailed) ⊎ (e ≡ ConnectFault.Memory)) }
     ensures edits { EditsRows ConnectFault.DiskFailed t.old t.new result }
 {
@@ -39,10 +39,10 @@ pub(crate) fn undo_outputs<R: Rows>(t: &mut Txn<'_, R>, count: u32) -> Result<()
 pub(crate) fn undo_inputs<R: Rows>(t: &mut Txn<'_, R>, count: u32) -> Result<(), ConnectFault>
     requires live { R.is_live t.old.rows.now }
     ensures lists { (counts : HeadCounts) (bs : List ListedBlock) (l : Lists) → R.tells
-        → Hold counts bs l (tables_in t.old) → FitAfter count back.unspend l
-        → OnOk result (Hold counts bs (times count back.unspend l) (tables_in t.new)) }
+        → Hold counts bs l (with_edits t.old) → FitAfter count back.unspend l
+        → OnOk result (Hold counts bs (times count back.unspend l) (with_edits t.new)) }
     ensures others { (u : Table) → u ≢ Table.Outs → u ≢ Table.Ins → u ≢ Table.Scripts
-        → tables_in t.new u ≡ tables_in t.old u }
+        → with_edits t.new u ≡ with_edits t.old u }
     ensures fault { IfErr result (λ e. (e ≡ ConnectFault.DiskFailed) ⊎ (e ≡ ConnectFault.Memory)) }
     ensures edits { EditsRows ConnectFault.DiskFailed t.old t.new result }
 {
@@ -56,10 +56,10 @@ pub(crate) fn undo_inputs<R: Rows>(t: &mut Txn<'_, R>, count: u32) -> Result<(),
 pub(crate) fn undo_entries<R: Rows>(t: &mut Txn<'_, R>, tx: u64) -> Result<(), ConnectFault>
     requires live { R.is_live t.old.rows.now }
     ensures lists { (counts : HeadCounts) (bs : List ListedBlock) (l : Lists) → R.tells
-        → Hold counts bs l (tables_in t.old) → IsNumbered l.scripts l.entries
-        → OnOk result (Hold counts bs (back.take_back_entries (length l.entries) tx l) (tables_in t.new)) }
+        → Hold counts bs l (with_edits t.old) → IsNumbered l.scripts l.entries
+        → OnOk result (Hold counts bs (back.take_back_entries (length l.entries) tx l) (with_edits t.new)) }
     ensures others { (u : Table) → u ≢ Table.Scripts → u ≢ Table.ScriptHeads → u ≢ Table.Entries
-        → tables_in t.new u ≡ tables_in t.old u }
+        → with_edits t.new u ≡ with_edits t.old u }
     ensures fault { IfErr result (λ e. (e ≡ ConnectFault.DiskFailed) ⊎ (e ≡ ConnectFault.Memory)) }
     ensures edits { EditsRows ConnectFault.DiskFailed t.old t.new result }
 {

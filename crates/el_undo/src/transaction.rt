@@ -1,6 +1,6 @@
 // The last transactions are taken back.
 ghost use Rattle.std.specs.Prelude.{◌≡◌, ◌≢◌, ◌⊎◌, ◌<◌, ◌≤◌, ◌+◌, ℕ, List, length, OnOk, IfErr};
-ghost use Rattle.el_rows.specs.Transaction.{tables_in, EditsRows};
+ghost use Rattle.el_rows.specs.Transaction.{with_edits, EditsRows};
 ghost use Rattle.el_row_formats.specs.declared.table.Table.{Table};
 ghost use Rattle.el_tables.specs.ChainLists.{ListedBlock};
 ghost use Rattle.el_tables.specs.Disconnecting as back;
@@ -21,9 +21,9 @@ use el_rows::{Rows, Txn};
 fn undo_tx<R: Rows>(t: &mut Txn<'_, R>, row: &TxRow) -> Result<(), ConnectFault>
     requires live { R.is_live t.old.rows.now }
     ensures lists { (counts : HeadCounts) (bs : List ListedBlock) (l : Lists) (can : CanUndo l) → R.tells
-        → Hold counts bs l (tables_in t.old) → 0 < counts.txs → can.tx.outs ≡ row.now.outs
-        → can.tx.ins ≡ row.now.ins → OnOk result (Hold counts bs (back.disconnect_tx l) (tables_in t.new)) }
-    ensures blocks { tables_in t.new Table.Blocks ≡ tables_in t.old Table.Blocks }
+        → Hold counts bs l (with_edits t.old) → 0 < counts.txs → can.tx.outs ≡ row.now.outs
+        → can.tx.ins ≡ row.now.ins → OnOk result (Hold counts bs (back.disconnect_tx l) (with_edits t.new)) }
+    ensures blocks { with_edits t.new Table.Blocks ≡ with_edits t.old Table.Blocks }
     ensures fault { IfErr result (λ e. (e ≡ ConnectFault.DiskFailed) ⊎ (e ≡ ConnectFault.Memory)) }
     ensures edits { EditsRows ConnectFault.DiskFailed t.old t.new result }
 {
@@ -38,9 +38,9 @@ fn undo_tx<R: Rows>(t: &mut Txn<'_, R>, row: &TxRow) -> Result<(), ConnectFault>
 fn disconnect_tx<R: Rows>(t: &mut Txn<'_, R>) -> Result<(), ConnectFault>
     requires live { R.is_live t.old.rows.now }
     ensures lists { (counts : HeadCounts) (bs : List ListedBlock) (l : Lists) → CanUndo l → R.tells
-        → Hold counts bs l (tables_in t.old) → 0 < counts.txs
-        → OnOk result (Hold counts bs (back.disconnect_tx l) (tables_in t.new)) }
-    ensures blocks { tables_in t.new Table.Blocks ≡ tables_in t.old Table.Blocks }
+        → Hold counts bs l (with_edits t.old) → 0 < counts.txs
+        → OnOk result (Hold counts bs (back.disconnect_tx l) (with_edits t.new)) }
+    ensures blocks { with_edits t.new Table.Blocks ≡ with_edits t.old Table.Blocks }
     ensures fault { IfErr result (λ e. (e ≡ ConnectFault.DiskFailed) ⊎ (e ≡ ConnectFault.Memory)) }
     ensures edits { EditsRows ConnectFault.DiskFailed t.old t.new result }
 {
@@ -55,9 +55,9 @@ fn disconnect_tx<R: Rows>(t: &mut Txn<'_, R>) -> Result<(), ConnectFault>
 pub(crate) fn disconnect_txs<R: Rows>(t: &mut Txn<'_, R>, count: u32) -> Result<(), ConnectFault>
     requires live { R.is_live t.old.rows.now }
     ensures lists { (counts : HeadCounts) (bs : List ListedBlock) (l : Lists) → CanUndoAll count l → R.tells
-        → Hold counts bs l (tables_in t.old) → 0 < counts.txs
-        → OnOk result (Hold counts bs (back.disconnect_txs count l) (tables_in t.new)) }
-    ensures blocks { tables_in t.new Table.Blocks ≡ tables_in t.old Table.Blocks }
+        → Hold counts bs l (with_edits t.old) → 0 < counts.txs
+        → OnOk result (Hold counts bs (back.disconnect_txs count l) (with_edits t.new)) }
+    ensures blocks { with_edits t.new Table.Blocks ≡ with_edits t.old Table.Blocks }
     ensures fault { IfErr result (λ e. (e ≡ ConnectFault.DiskFailed) ⊎ (e ≡ ConnectFault.Memory)) }
     ensures edits { EditsRows ConnectFault.DiskFailed t.old t.new result }
 {

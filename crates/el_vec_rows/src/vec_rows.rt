@@ -1,13 +1,13 @@
 // Tables in memory, and a store of them.
 ghost use Rattle.std.specs.Prelude.{◌≡◌, ◌≢◌, ◌<◌, ◌≤◌, ◌+◌, ◌*◌, ◌^◌, ℕ, List, [], length, get_or, slice_get, slice_set, replicate, refl, None, Some, OnOk, OnErr, IfOk};
 ghost use Rattle.el_row_formats.specs.RowBytes.{link_bytes};
-ghost use Rattle.el_row_formats.specs.Tables.{tables_of, size_of, limit_of, first_count, index_of, key, row_at};
+ghost use Rattle.el_row_formats.specs.Tables.{tables_listed, size_of, limit_of, first_count, index_of, key, row_at};
 ghost use Rattle.el_row_formats.specs.declared.limits.TheConstants.{MAX_HEAD_BITS};
 ghost use Rattle.el_rows.specs.Changes.{Changes, IsMadeFrom, OnTable, count_at, under};
 ghost use Rattle.el_rows.specs.Reads.{Same};
 ghost use Rattle.el_rows.specs.SizedRows.{SizedRows};
 ghost use Rattle.el_vec_rows.specs.MemoryRows.{IsResized};
-ghost use Rattle.el_vec_rows.specs.within.InMemory.{list_of, kept_of, AreSized, AllGrown, HasRoom, AreWriting, AreWritten};
+ghost use Rattle.el_vec_rows.specs.within.InMemory.{sized_rows, tables_held, AreSized, AllGrown, HasEnoughRows, AreWriting, AreWritten};
 
 use el_base::{GhostCount, OutOfMemory};
 use el_outside::DiskFailed;
@@ -26,12 +26,12 @@ pub struct MemRows {
 
 impl Model for MemRows {
     ghost use Rattle.std.specs.Prelude.{List, ℕ};
-    ghost use Rattle.el_row_formats.specs.Tables.{listed};
+    ghost use Rattle.el_row_formats.specs.Tables.{list_of_tables};
     ghost use Rattle.el_vec_rows.specs.within.InMemory.{shown_rows, AreKept};
 
     ghost Value = { List (List (List ℕ)) };
 
-    ghost view = { λ m. listed (shown_rows m.kept m.counts) };
+    ghost view = { λ m. list_of_tables (shown_rows m.kept m.counts) };
 
     ghost invariant = { λ m. AreKept m.kept m.counts };
 }
@@ -43,7 +43,7 @@ fn grow_one(
     counts: &[u64; TABLES],
 ) -> Result<(), OutOfMemory>
     ensures grown { AllGrown kept.old kept.new }
-    ensures enough { OnOk result (count_at counts.now t ≤ length (kept_of kept.new t)) }
+    ensures enough { OnOk result (count_at counts.now t ≤ length (tables_held kept.new t)) }
 {
     kept[t.index()].grow(counts[t.index()] as usize)
 }
@@ -51,7 +51,7 @@ fn grow_one(
 // Makes room for so many rows of all tables.
 fn grow(kept: &mut [RowList; TABLES], counts: &[u64; TABLES]) -> Result<(), OutOfMemory>
     ensures grown { AllGrown kept.old kept.new }
-    ensures enough { OnOk result (HasRoom kept.new counts.now) }
+    ensures enough { OnOk result (HasEnoughRows kept.new counts.now) }
 {
     for t in Table::ALL {
         grow_one(kept, t, counts)?;
@@ -61,22 +61,25 @@ fn grow(kept: &mut [RowList; TABLES], counts: &[u64; TABLES]) -> Result<(), OutO
 
 // Writes over one row, in place.
 fn write_one(kept: &mut [RowList; TABLES], t: Table, i: u64, row: &[u8])
-    requires within { i < length (kept_of kept.old t) }
-    requires sized { length row.now ≡ (list_of kept.old t).size }
+    requires within { i < length (tables_held kept.old t) }
+    requires sized { length row.now ≡ (sized_rows kept.old t).size }
     ensures { kept.new ≡ slice_set kept.old (index_of t)
-        (record { size = (list_of kept.old t).size; rows = slice_set (kept_of kept.old t) i row.now }) }
+        (record {
+          size = (sized_rows kept.old t).size;
+          rows = slice_set (tables_held kept.old t) i row.now;
+        }) }
 {
     kept[t.index()].write(i as usize, row);
 }
 
 // Writes over so many rows of a table from that number on, whose bytes stand one after another, in place.
 fn write_rows(kept: &mut [RowList; TABLES], t: Table, first: u64, rows: usize, bytes: &[u8])
-    requires within { first + rows ≤ length (kept_of kept.old t) }
+    requires within { first + rows ≤ length (tables_held kept.old t) }
     requires limit { first + rows ≤ limit_of t }
     requires long { length bytes.now ≡ rows * size_of t }
-    requires sized { (list_of kept.old t).size ≡ size_of t }
+    requires sized { (sized_rows kept.old t).size ≡ size_of t }
     ensures { (base : Table → ℕ) (counts : List ℕ) (changes : Changes) (old : List SizedRows) (k : ℕ)
-        → IsMadeFrom base counts changes → HasRoom old counts → AreSized old
+        → IsMadeFrom base counts changes → HasEnoughRows old counts → AreSized old
         → ((j : ℕ) → j < rows
         → slice_get changes (k + j) ≡ Some (key t (first + j), row_at (size_of t) bytes.now j))
         → AreWriting old kept.old changes k → AreWriting old kept.new changes (k + rows) }
@@ -91,7 +94,7 @@ fn write_rows(kept: &mut [RowList; TABLES], t: Table, first: u64, rows: usize, b
 // Writes over the changed rows, in place.
 fn write(kept: &mut [RowList; TABLES], sealed: &Sealed)
     requires made { (base : Table → ℕ) × IsMadeFrom base sealed.now.counts sealed.now.changes }
-    requires room { HasRoom kept.old sealed.now.counts }
+    requires room { HasEnoughRows kept.old sealed.now.counts }
     requires sized { AreSized kept.old }
     ensures { AreWritten kept.old kept.new sealed.now.changes }
 {
@@ -122,9 +125,9 @@ fn copy(alloc: Global, kept: &[RowList; TABLES]) -> Result<[RowList; TABLES], Ou
 // Makes all rows of a table of heads lead to nothing.
 fn clear_heads(rows: &mut MemRows, t: Table)
     requires heads { size_of t ≡ 8 }
-    ensures here { tables_of rows.new t
-        ≡ replicate (length (tables_of rows.old t)) (link_bytes None) }
-    ensures others { (u : Table) → u ≢ t → tables_of rows.new u ≡ tables_of rows.old u }
+    ensures here { tables_listed rows.new t
+        ≡ replicate (length (tables_listed rows.old t)) (link_bytes None) }
+    ensures others { (u : Table) → u ≢ t → tables_listed rows.new u ≡ tables_listed rows.old u }
 {
     for i in 0..rows.count(t) {
         rows.write(t, i, &[0; 8]);
@@ -137,7 +140,7 @@ impl MemRows {
     pub fn first(alloc: Global, bits: u32) -> Result<MemRows, OutOfMemory>
         requires { bits ≤ MAX_HEAD_BITS }
         ensures { IfOk result (λ m. (t : Table)
-            → tables_of m t ≡ replicate (first_count bits t) (link_bytes None)) }
+            → tables_listed m t ≡ replicate (first_count bits t) (link_bytes None)) }
     {
         let heads = bucket_count(bits);
         let mut rows = MemRows::new(alloc);
@@ -149,7 +152,7 @@ impl MemRows {
 
     /// No rows. Takes no memory.
     pub fn new(alloc: Global) -> MemRows
-        ensures { (t : Table) → tables_of result t ≡ [] }
+        ensures { (t : Table) → tables_listed result t ≡ [] }
     {
         MemRows {
             kept: [
@@ -169,8 +172,8 @@ impl MemRows {
 
     /// The bytes of a row.
     pub fn bytes(&self, t: Table, i: u64) -> &[u8]
-        requires { i < length (tables_of self.now t) }
-        ensures bytes { result.now ≡ get_or (tables_of self.now t) i [] }
+        requires { i < length (tables_listed self.now t) }
+        ensures bytes { result.now ≡ get_or (tables_listed self.now t) i [] }
         ensures sized { length result.now ≡ size_of t }
     {
         self.kept[t.index()].row(i as usize)
@@ -178,9 +181,10 @@ impl MemRows {
 
     /// Makes the rows the sealed ones: changed rows are written in place, and the others stay where they are.
     pub fn edit(&mut self, sealed: &Sealed) -> Result<(), OutOfMemory>
-        requires { IsMadeFrom (λ t. length (tables_of self.old t)) sealed.now.counts sealed.now.changes }
+        requires { IsMadeFrom (λ t. length (tables_listed self.old t)) sealed.now.counts sealed.now.changes }
         ensures ok { OnOk result
-            (Same (under (tables_of self.old) sealed.now.counts sealed.now.changes) (tables_of self.new)) }
+            (Same (under (tables_listed self.old) sealed.now.counts sealed.now.changes)
+            (tables_listed self.new)) }
         ensures err { OnErr result (self.new ≡ self.old) }
     {
         let counts = sealed.counts();
@@ -193,7 +197,7 @@ impl MemRows {
     /// Gives each table so many rows: the first ones of those that it has, and any rows behind them.
     pub fn resize(&mut self, counts: &[u64; TABLES]) -> Result<(), OutOfMemory>
         requires { (t : Table) → count_at counts.now t ≤ limit_of t }
-        ensures ok { OnOk result (IsResized counts.now (tables_of self.old) (tables_of self.new)) }
+        ensures ok { OnOk result (IsResized counts.now (tables_listed self.old) (tables_listed self.new)) }
         ensures err { OnErr result (self.new ≡ self.old) }
     {
         grow(&mut self.kept, counts)?;
@@ -203,17 +207,17 @@ impl MemRows {
 
     /// Writes over a row, in place.
     pub fn write(&mut self, t: Table, i: u64, row: &[u8])
-        requires within { i < length (tables_of self.old t) }
+        requires within { i < length (tables_listed self.old t) }
         requires sized { length row.now ≡ size_of t }
-        ensures { OnTable (tables_of self.old) (tables_of self.new) t
-            (slice_set (tables_of self.old t) i row.now) }
+        ensures { OnTable (tables_listed self.old) (tables_listed self.new) t
+            (slice_set (tables_listed self.old t) i row.now) }
     {
         write_one(&mut self.kept, t, i, row);
     }
 
     /// How many rows the table has.
     pub fn count(&self, t: Table) -> u64
-        ensures count { result ≡ length (tables_of self.now t) }
+        ensures count { result ≡ length (tables_listed self.now t) }
         ensures limit { result ≤ limit_of t }
     {
         self.counts[t.index()]
@@ -254,7 +258,7 @@ impl VecRows {
     pub fn new(alloc: Global, bits: u32) -> Result<VecRows, OutOfMemory>
         requires { bits ≤ MAX_HEAD_BITS }
         ensures first { IfOk result (λ s. (t : Table)
-            → tables_of s.rows t ≡ replicate (first_count bits t) (link_bytes None)) }
+            → tables_listed s.rows t ≡ replicate (first_count bits t) (link_bytes None)) }
         ensures bits { IfOk result (λ s. s.bits ≡ bits) }
         ensures idle { IfOk result (λ s. s.reads ≡ 0) }
     {
@@ -269,7 +273,8 @@ impl VecRows {
     /// only where memory runs out, and then changes nothing.
     pub fn resize(&mut self, counts: &[u64; TABLES]) -> Result<(), OutOfMemory>
         requires { (t : Table) → count_at counts.now t ≤ limit_of t }
-        ensures ok { OnOk result (IsResized counts.now (tables_of self.old.rows) (tables_of self.new.rows)) }
+        ensures ok { OnOk result (IsResized counts.now (tables_listed self.old.rows)
+            (tables_listed self.new.rows)) }
         ensures err { OnErr result (self.new.rows ≡ self.old.rows) }
         ensures bits { self.new.bits ≡ self.old.bits }
         ensures idle { self.new.reads ≡ self.old.reads }
@@ -279,10 +284,10 @@ impl VecRows {
 
     /// Writes over a row, in place.
     pub fn write(&mut self, t: Table, i: u64, row: &[u8])
-        requires within { i < length (tables_of self.old.rows t) }
+        requires within { i < length (tables_listed self.old.rows t) }
         requires sized { length row.now ≡ size_of t }
-        ensures written { OnTable (tables_of self.old.rows) (tables_of self.new.rows) t
-            (slice_set (tables_of self.old.rows t) i row.now) }
+        ensures written { OnTable (tables_listed self.old.rows) (tables_listed self.new.rows) t
+            (slice_set (tables_listed self.old.rows t) i row.now) }
         ensures bits { self.new.bits ≡ self.old.bits }
         ensures idle { self.new.reads ≡ self.old.reads }
     {
@@ -295,9 +300,9 @@ impl Rows for VecRows {
 
     ghost tells_crash = { ⊥ };
 
-    ghost lists = { λ s. tables_of s.rows };
+    ghost lists = { λ s. tables_listed s.rows };
 
-    ghost counts = { λ s t. length (tables_of s.rows t) };
+    ghost counts = { λ s t. length (tables_listed s.rows t) };
 
     ghost heads = { λ s. 2 ^ s.bits };
 

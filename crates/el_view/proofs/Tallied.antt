@@ -22,8 +22,8 @@ use Rattle.el_mempool.specs.declared.held.Source.{Source}
 use Rattle.el_mempool.specs.declared.held.KeptTx.{KeptTx}
 use Rattle.el_mempool.specs.Sift.{output_held, named, held_by}
 use Rattle.el_mempool.specs.Refusals.{kept_with}
-use Rattle.el_mempool.specs.Standing.{source_at, sources, kept_tx, StandsFor}
-use Rattle.el_mempool.specs.Unconfirmed.{has_script, concerns, put, in_order, shown_cmp, by_shown, entry, pool_history}
+use Rattle.el_mempool.specs.Standing.{source_at, sources, kept_tx, KeptStandFor}
+use Rattle.el_mempool.specs.Unconfirmed.{has_script, concerns_script, put, in_order, shown_cmp, by_shown, entry, pool_history}
 use Rattle.el_mempool.proofs.Ordered.{all_in_order}
 use Rattle.el_mempool.proofs.Picked.{KeysApart}
 use Rattle.el_mempool.proofs.Changes.{apart_from, own_found}
@@ -89,13 +89,13 @@ found_in_order kept apart = all_in_order shown_cmp (λ (t : Tx). kept_with (txid
 
 given_is : (chain : Chain) (kept : List Tx) (s : List ℕ) → KeysApart txid kept → given_by chain kept s (pool_history chain kept s) ≡ tally (gives s) kept
 given_is chain kept s apart =
-    listed chain kept (given_in s) (concerns chain kept s)
+    listed chain kept (given_in s) (concerns_script chain kept s)
     (λ t h. given_none s t.outputs (or_parts (funds s t) (list_any (has_script s) (held_by chain kept t.inputs)) h).0) (by_shown kept) (found_in_order kept apart)
     ∙ tally_in_order shown_cmp (gives s) kept
 
 taken_is : (chain : Chain) (kept : List Tx) (s : List ℕ) → KeysApart txid kept → taken_by chain kept s (pool_history chain kept s) ≡ tally (takes chain kept s) kept
 taken_is chain kept s apart =
-    listed chain kept (taken_in s) (concerns chain kept s)
+    listed chain kept (taken_in s) (concerns_script chain kept s)
     (λ t h. taken_none chain kept s t.inputs (or_parts (funds s t) (list_any (has_script s) (held_by chain kept t.inputs)) h).1) (by_shown kept) (found_in_order kept apart)
     ∙ tally_in_order shown_cmp (takes chain kept s) kept
 
@@ -104,7 +104,7 @@ taken_is chain kept s apart =
 moved : (a b c d : ℕ) → a + d ≡ b + c → pos c -ℤ pos d ≡ pos a -ℤ pos b
 moved a b c d h = omega (arith, ints, h)
 
-pub change_is : (entries : List KeptTx) (chain : Chain) (kept : List Tx) (s : List ℕ) → StandsFor entries chain kept → (given taken : ℕ)
+pub change_is : (entries : List KeptTx) (chain : Chain) (kept : List Tx) (s : List ℕ) → KeptStandFor entries chain kept → (given taken : ℕ)
     → given ≡ given_by chain kept s (pool_history chain kept s) → taken ≡ taken_by chain kept s (pool_history chain kept s)
     → pos given -ℤ pos taken ≡ unconfirmed chain kept s
 change_is entries chain kept s stands given taken gave took =

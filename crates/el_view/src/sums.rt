@@ -3,7 +3,7 @@ ghost use Rattle.std.specs.Prelude.{◌≡◌, ◌≤◌, ◌+◌, ◌^◌, ◌�
 ghost use Rattle.std.specs.Int.{w64};
 ghost use Rattle.el_chain.specs.Chains.{Chain};
 ghost use Rattle.el_tx.specs.declared.types.Tx as shape;
-ghost use Rattle.el_mempool.specs.Standing.{StandsFor};
+ghost use Rattle.el_mempool.specs.Standing.{KeptStandFor};
 ghost use Rattle.el_view.specs.within.Sums as spec;
 
 use el_base::{Hash32, OutOfMemory};
@@ -50,8 +50,8 @@ fn taken_at(inputs: &[Source], script_hash: &Hash32) -> u128
     sum
 }
 
-// The sums with those of one more transaction. Takes no memory, but where they pass 128 bits there is none for
-// them; no coins hold so much together.
+// The sums with those of one more transaction. Takes no memory, but where they pass 128 bits there is none
+// for them; no coins hold so much together.
 fn with_entry(sums: Sums, entry: &KeptTx, script_hash: &Hash32) -> Result<Sums, OutOfMemory>
     ensures given { IfOk result (λ r. r.given
         ≡ sums.given + spec.given_at script_hash.now.0 entry.now.outputs) }
@@ -74,11 +74,11 @@ pub fn sums_of(
     entries: &[PoolEntry],
     script_hash: &Hash32,
 ) -> Result<Sums, OutOfMemory>
-    ensures given { (chain : Chain) (kept : List shape.Tx) → StandsFor pool.now.entries chain kept
+    ensures given { (chain : Chain) (kept : List shape.Tx) → KeptStandFor pool.now.entries chain kept
         → IfOk result (λ r. r.given ≡ spec.given_by chain kept script_hash.now.0 entries.now) }
-    ensures taken { (chain : Chain) (kept : List shape.Tx) → StandsFor pool.now.entries chain kept
+    ensures taken { (chain : Chain) (kept : List shape.Tx) → KeptStandFor pool.now.entries chain kept
         → IfOk result (λ r. r.taken ≡ spec.taken_by chain kept script_hash.now.0 entries.now) }
-    ensures wide { (chain : Chain) (kept : List shape.Tx) → StandsFor pool.now.entries chain kept
+    ensures wide { (chain : Chain) (kept : List shape.Tx) → KeptStandFor pool.now.entries chain kept
         → OnErr result ((2 ^ 128 ≤ spec.given_by chain kept script_hash.now.0 entries.now)
         ⊎ (2 ^ 128 ≤ spec.taken_by chain kept script_hash.now.0 entries.now)) }
 {

@@ -6,7 +6,7 @@ ghost use Rattle.el_chain.specs.History.{history};
 ghost use Rattle.el_model.specs.LedgerCalls.{Asked};
 ghost use Rattle.el_tx.specs.declared.types.Tx as shape;
 ghost use Rattle.el_mempool.specs.Sift.{is_taken};
-ghost use Rattle.el_mempool.specs.Standing.{StandsFor};
+ghost use Rattle.el_mempool.specs.Standing.{KeptStandFor};
 ghost use Rattle.el_mempool.specs.Unconfirmed.{pool_history};
 ghost use Rattle.el_status.specs.Statuses.{status};
 ghost use Rattle.el_view.specs.Views as spec;
@@ -45,7 +45,7 @@ pub fn view_history<G: Ledger>(
     requires live { G.is_live ledger.old }
     ensures confirmed { (chain : Chain) → G.stands ledger.old chain
         → IfOk result (λ r. r.0.items ≡ history chain script_hash.now.0) }
-    ensures unconfirmed { (chain : Chain) (kept : List shape.Tx) → StandsFor pool.now.entries chain kept
+    ensures unconfirmed { (chain : Chain) (kept : List shape.Tx) → KeptStandFor pool.now.entries chain kept
         → IfOk result (λ r. r.1.items ≡ pool_history chain kept script_hash.now.0) }
     ensures rows { (chain : Chain) → G.stands ledger.old chain → G.reads ledger.new
         ≤ G.reads ledger.old + history_rows chain (G.buckets ledger.old) script_hash.now.0 }
@@ -59,7 +59,7 @@ pub fn view_history<G: Ledger>(
 
 // Whether no kept transaction takes the coin. Takes no memory.
 fn is_untaken(pool: &Pool, coin: &Coin) -> bool
-    ensures { (chain : Chain) (kept : List shape.Tx) → StandsFor pool.now.entries chain kept
+    ensures { (chain : Chain) (kept : List shape.Tx) → KeptStandFor pool.now.entries chain kept
         → result ≡ not (is_taken coin.now.outpoint kept) }
 {
     pool.spender(&coin.outpoint).is_none()
@@ -67,12 +67,12 @@ fn is_untaken(pool: &Pool, coin: &Coin) -> bool
 
 // Takes away the coins that a kept transaction takes. Takes no memory.
 fn keep_untaken(pool: &Pool, coins: &mut Vec<Coin>)
-    ensures { (chain : Chain) (kept : List shape.Tx) → StandsFor pool.now.entries chain kept
+    ensures { (chain : Chain) (kept : List shape.Tx) → KeptStandFor pool.now.entries chain kept
         → coins.new.items ≡ spec.untaken kept coins.old.items }
 {
     coins.retain(
         |coin: &Coin| -> bool
-            ensures { (chain : Chain) (kept : List shape.Tx) → StandsFor pool.entry.now.entries chain kept
+            ensures { (chain : Chain) (kept : List shape.Tx) → KeptStandFor pool.entry.now.entries chain kept
                 → result ≡ not (is_taken coin.now.outpoint kept) }
         { is_untaken(pool, coin) },
     );
@@ -93,7 +93,7 @@ pub fn view_unspent<G: Ledger>(
 ) -> Result<Vec<Coin>, QueryFault>
     requires live { G.is_live ledger.old }
     ensures unspent { (chain : Chain) (kept : List shape.Tx) → G.stands ledger.old chain
-        → StandsFor pool.now.entries chain kept
+        → KeptStandFor pool.now.entries chain kept
         → IfOk result (λ coins. coins.items ≡ spec.unspent chain kept script_hash.now.0) }
     ensures rows { (chain : Chain) → G.stands ledger.old chain → G.reads ledger.new
         ≤ G.reads ledger.old + unspent_rows chain (G.buckets ledger.old) script_hash.now.0 }
@@ -109,7 +109,7 @@ pub fn view_unspent<G: Ledger>(
 
 // What the kept transactions change of what the script hash holds. Fails only where memory runs out.
 fn unconfirmed_of(pool: &Pool, script_hash: &Hash32) -> Result<i64, OutOfMemory>
-    ensures { (chain : Chain) (kept : List shape.Tx) → StandsFor pool.now.entries chain kept
+    ensures { (chain : Chain) (kept : List shape.Tx) → KeptStandFor pool.now.entries chain kept
         → IfOk result (λ change. change ≡ spec.unconfirmed chain kept script_hash.now.0) }
 {
     let entries = pool.entries(script_hash)?;
@@ -130,7 +130,7 @@ pub fn view_balance<G: Ledger>(
 ) -> Result<Balance, QueryFault>
     requires live { G.is_live ledger.old }
     ensures balance { (chain : Chain) (kept : List shape.Tx) → G.stands ledger.old chain
-        → StandsFor pool.now.entries chain kept
+        → KeptStandFor pool.now.entries chain kept
         → IfOk result (λ found. found ≡ spec.balance chain kept script_hash.now.0) }
     ensures rows { (chain : Chain) → G.stands ledger.old chain → G.reads ledger.new
         ≤ G.reads ledger.old + script_rows chain (G.buckets ledger.old) script_hash.now.0 }
@@ -159,7 +159,7 @@ pub fn view_status<G: Ledger>(
 ) -> Result<Option<Hash32>, QueryFault>
     requires live { G.is_live ledger.old }
     ensures status { (chain : Chain) (kept : List shape.Tx) → G.stands ledger.old chain
-        → StandsFor pool.now.entries chain kept
+        → KeptStandFor pool.now.entries chain kept
         → IfOk result (λ found. found ≡ status chain kept script_hash.now.0) }
     ensures rows { (chain : Chain) → G.stands ledger.old chain → G.reads ledger.new
         ≤ G.reads ledger.old + history_rows chain (G.buckets ledger.old) script_hash.now.0 }

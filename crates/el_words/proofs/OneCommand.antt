@@ -3,7 +3,7 @@ use Rattle.std.proofs.Common.{◌≡◌, ◌∙◌, ℕ, List, [], ◌∷◌, sl
 use Rattle.std.specs.Str.Parse.{digits_value}
 use Rattle.el_words.specs.Options.{Word, Given, words_of, value_of}
 use Rattle.el_words.specs.Words.{IsOnceOf, IsServeOf, IsCheckOf, IsAuditOf, IsPort, IsLimit, IsHeadBits, network_name}
-use Rattle.el_words.specs.Proofs.{IsProofOf}
+use Rattle.el_words.specs.Proofs.{SayProof}
 use Rattle.el_words.specs.Commands.{IsCommand, IsNoCommand}
 use Rattle.el_mempool.specs.declared.entry.PoolLimits.{PoolLimits}
 use Rattle.el_words.specs.declared.words.ServeSettings.{ServeSettings}
@@ -175,7 +175,7 @@ pub no_command : (words : List Word) → ((said : ServeWords) → IsServeOf word
     → ((blocks : Word) (network : Network) → IsOnceOf words blocks network → ⊥)
     → ((count : ℕ) → IsCheckOf words count → ⊥)
     → ((blocks index : Word) (network : Network) → IsAuditOf words blocks index network → ⊥)
-    → ((said : ProofWords) → IsProofOf words said → ⊥) → IsNoCommand words
+    → ((said : ProofWords) → SayProof words said → ⊥) → IsNoCommand words
 no_command words no_serve no_once no_check no_audit no_proof (command.Serve said) is = no_serve said is
 no_command words no_serve no_once no_check no_audit no_proof (command.Once blocks network) is =
     no_once blocks network is

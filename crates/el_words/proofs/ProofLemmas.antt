@@ -14,7 +14,7 @@ use Rattle.el_base.proofs.Lists.{same_cut}
 use Rattle.el_lines.specs.NodeLines.{ShowsNumber}
 use Rattle.el_words.specs.Options.{Word}
 use Rattle.el_words.specs.Words.{texts}
-use Rattle.el_words.specs.Proofs.{ShowsHeader, ShowsHashes, ShowsBranch, IsProofOf}
+use Rattle.el_words.specs.Proofs.{ShowsHeader, ShowsHashes, ShowsBranch, SayProof}
 use Rattle.el_words.specs.within.Hashes.{BeginsWithHash, ReadsHashes}
 use Rattle.el_words.specs.declared.words.ProofWords.{ProofWords}
 
@@ -74,7 +74,7 @@ said_are : (h i : List ℕ) (t u : Hash32) (p q : ℕ) (b c : List Hash32) → h
     → ◌≡◌ {A = ProofWords} (record { header = h; txid = t; pos = p; branch = b }) (record { header = i; txid = u; pos = q; branch = c })
 said_are h i t u p q b c e1 e2 e3 e4 = rw (e1, e2, e3, e4) refl
 
-pub one_proof : (words : List Word) (one other : ProofWords) → IsProofOf words one → IsProofOf words other → one ≡ other
+pub one_proof : (words : List Word) (one other : ProofWords) → SayProof words one → SayProof words other → one ≡ other
 one_proof words one other a b =
     let here = a.words_are in
     let there = b.words_are in
@@ -251,7 +251,7 @@ pub same_five : (a a' b b' c c' d d' e e' : Word) → a ≡ a' → b ≡ b' → 
 same_five a a' b b' c c' d d' e e' ia ib ic id ie = rw (ia, ib, ic, id, ie) refl
 
 -- what five words say, word by word
-pub parts_of : (words : List Word) (a b c d e : Word) (said : ProofWords) → words ≡ a ∷ b ∷ c ∷ d ∷ e ∷ [] → IsProofOf words said
+pub parts_of : (words : List Word) (a b c d e : Word) (said : ProofWords) → words ≡ a ∷ b ∷ c ∷ d ∷ e ∷ [] → SayProof words said
     → ShowsHeader b said.header × Shows c said.txid.0 × ShowsNumber d 10 (10 ^ 10) said.pos × ShowsBranch e said.branch
 parts_of words a b c d e said is h =
     let same = sym h.words_are ∙ is in

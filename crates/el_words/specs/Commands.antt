@@ -2,7 +2,7 @@
 use Rattle.std.specs.Prelude.{◌≡◌, ℕ, List}
 use Rattle.el_words.specs.Options.{Word}
 use Rattle.el_words.specs.Words.{IsOnceOf, IsServeOf, IsCheckOf, IsAuditOf, network_magic}
-use Rattle.el_words.specs.Proofs.{IsProofOf}
+use Rattle.el_words.specs.Proofs.{SayProof}
 use Rattle.el_words.specs.declared.words.Network.{Network}
 use Rattle.el_words.specs.declared.words.Command.{Command}
 use Rattle.el_words.specs.declared.words.Command.TheVariants as command
@@ -14,7 +14,7 @@ IsCommand words (command.Serve said) = IsServeOf words said
 IsCommand words (command.Once blocks network) = IsOnceOf words blocks network
 IsCommand words (command.CheckChain count) = IsCheckOf words count
 IsCommand words (command.Audit blocks index network) = IsAuditOf words blocks index network
-IsCommand words (command.ProveCheck said) = IsProofOf words said
+IsCommand words (command.ProveCheck said) = SayProof words said
 
 -- the words are those of no command
 abbrev pub IsNoCommand : List Word → Type 0

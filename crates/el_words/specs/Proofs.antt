@@ -25,7 +25,7 @@ ShowsBranch text [] = text ≡ codes "-"
 ShowsBranch text (h ∷ hs) = ShowsHashes text (h ∷ hs) × (length (h ∷ hs) ≤ 32)
 
 -- the words `prove-check HEADER TXID POS BRANCH`, with a number of one to ten digits, which say this
-pub record IsProofOf (words : List Word) (said : ProofWords) : Type 0 where
+pub record SayProof (words : List Word) (said : ProofWords) : Type 0 where
   pub header_text : Word
   pub txid_text : Word
   pub pos_text : Word

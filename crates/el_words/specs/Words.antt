@@ -22,18 +22,18 @@ network_magic network.Testnet3 = 0x0b ∷ 0x11 ∷ 0x09 ∷ 0x07 ∷ []
 network_magic network.Regtest = 0xfa ∷ 0xbf ∷ 0xb5 ∷ 0xda ∷ []
 
 -- a number from 1 up to `most` in decimal, by one to ten digits, of which the first may be zeros
-pub record IsUpTo (most : ℕ) (text : Word) (n : ℕ) : Type 0 where
+pub record IsNumberUpTo (most : ℕ) (text : Word) (n : ℕ) : Type 0 where
   pub number : ShowsNumber text 10 (most + 1) n
   pub least : 1 ≤ n
 
 -- the text is a port, from 1 to 65,535
 abbrev pub IsPort : Word → ℕ → Type 0
-IsPort = IsUpTo 65535
+IsPort = IsNumberUpTo 65535
 
 -- a limit: the number that its option gives, or the greatest where the option isn't given
 abbrev pub IsLimit : ℕ → Option Word → ℕ → Type 0
 IsLimit most None n = n ≡ most
-IsLimit most (Some text) n = IsUpTo most text n
+IsLimit most (Some text) n = IsNumberUpTo most text n
 
 -- the two ports, which differ
 pub record ArePorts (given : Given) (client_port node_port : ℕ) : Type 0 where
@@ -50,7 +50,7 @@ pub record AreLimits (given : Given) (limits : PoolLimits) : Type 0 where
 -- 16 to 24, or 16 where the option isn't given
 abbrev pub IsHeadBits : Option Word → ℕ → Type 0
 IsHeadBits None n = n ≡ 16
-IsHeadBits (Some text) n = IsUpTo 24 text n × (16 ≤ n)
+IsHeadBits (Some text) n = IsNumberUpTo 24 text n × (16 ≤ n)
 
 -- the greatest limits, which stand where no others are given
 abbrev pub greatest_limits : PoolLimits
@@ -107,7 +107,7 @@ pub record IsServeOf (words : List Word) (said : ServeWords) : Type 0 where
 pub record IsCheckOf (words : List Word) (count : ℕ) : Type 0 where
   pub number : Word
   pub words_are : words ≡ codes "check-chain" ∷ number ∷ []
-  pub shown : IsUpTo 20000 number count
+  pub shown : IsNumberUpTo 20000 number count
 
 -- the words as bytes
 abbrev pub texts : List (String Global) → List Word

@@ -4,7 +4,7 @@ ghost use Rattle.el_base.specs.Shown.{Shows};
 ghost use Rattle.el_base.specs.declared.hash.Hash32 as shape;
 ghost use Rattle.el_words.specs.Options.{Word};
 ghost use Rattle.el_words.specs.Words.{texts};
-ghost use Rattle.el_words.specs.Proofs.{ShowsHeader, ShowsBranch, IsProofOf};
+ghost use Rattle.el_words.specs.Proofs.{ShowsHeader, ShowsBranch, SayProof};
 ghost use Rattle.el_words.specs.declared.words.ProofWords as words_shape;
 ghost use Rattle.el_words.specs.within.Hashes.{BeginsWithHash, ReadsHashes};
 
@@ -142,10 +142,10 @@ fn branch_of(alloc: Global, text: &[u8]) -> Result<Option<Listed<Hash32>>, OutOf
 /// What the words `prove-check HEADER TXID POS BRANCH` say; None exactly for other words. Memory runs out for
 /// such words alone.
 pub fn proof_of(alloc: Global, words: &[String]) -> Result<Option<ProofWords>, OutOfMemory>
-    ensures found { IfOk result (λ found. IfSome found (IsProofOf (texts words.now))) }
+    ensures found { IfOk result (λ found. IfSome found (SayProof (texts words.now))) }
     ensures none { IfOk result (λ found. IfNone found
-        ((said : words_shape.ProofWords) → IsProofOf (texts words.now) said → ⊥)) }
-    ensures memory { IfErr result (λ e. (said : words_shape.ProofWords) × IsProofOf (texts words.now) said) }
+        ((said : words_shape.ProofWords) → SayProof (texts words.now) said → ⊥)) }
+    ensures memory { IfErr result (λ e. (said : words_shape.ProofWords) × SayProof (texts words.now) said) }
 {
     let [command, header, txid, pos, branch] = words else {
         return Ok(None);

@@ -2,7 +2,7 @@
 ghost use Rattle.std.specs.Prelude.{◌≡◌, ◌≢◌, ◌<◌, ◌^◌, ℕ, List, [], ◌∷◌, codes, is_some, true, map, Some, IfSome, IfNone, IfOk, IsSomeAnd, MatchOption};
 ghost use Rattle.clap.specs.Matches.{first_value, found_of};
 ghost use Rattle.el_words.specs.Options.{Word, Given, words_of, value_of};
-ghost use Rattle.el_words.specs.Words.{IsOnceOf, IsServeOf, IsCheckOf, IsAuditOf, IsUpTo, IsPort, IsLimit, IsHeadBits, ArePorts, AreLimits, greatest_limits, network_name, network_magic, once_options, serve_options, texts};
+ghost use Rattle.el_words.specs.Words.{IsOnceOf, IsServeOf, IsCheckOf, IsAuditOf, IsNumberUpTo, IsPort, IsLimit, IsHeadBits, ArePorts, AreLimits, greatest_limits, network_name, network_magic, once_options, serve_options, texts};
 ghost use Rattle.el_words.specs.Commands.{IsCommand, IsNoCommand};
 ghost use Rattle.el_words.specs.within.Reading.{GiveOptions};
 ghost use Rattle.el_words.specs.declared.words.Network as shape;
@@ -211,8 +211,8 @@ fn network_in(words: &[String]) -> Option<Network>
 fn number_up_to(text: &str, most: u64) -> Option<u64>
     requires { most < 2 ^ 32 }
     ensures { MatchOption result
-        ((n : ℕ) → IsUpTo most text.now n → ⊥)
-        (λ n. IsUpTo most text.now n) }
+        ((n : ℕ) → IsNumberUpTo most text.now n → ⊥)
+        (λ n. IsNumberUpTo most text.now n) }
 {
     let number = number_of(text.as_bytes(), 10, most + 1)?;
     if number == 0 {

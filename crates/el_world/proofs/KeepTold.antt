@@ -24,7 +24,7 @@ use Rattle.el_calls.specs.declared.call.VersionParts.{VersionParts}
 use Rattle.el_calls.specs.declared.refusal.Refusal.{Refusal}
 use Rattle.el_calls.specs.declared.refusal.Refusal.TheVariants as refusal
 use Rattle.el_methods.specs.Outcomes.{IsReplyWith}
-use Rattle.el_methods.specs.Replied.{replied, reads_files, IsGiven, with_session, with_headers}
+use Rattle.el_methods.specs.Replied.{replied, reads_files, IsGiven, answer_with_session, with_headers}
 use Rattle.el_methods.specs.Replied.{with_subscriptions, agreed, agreed_on}
 use Rattle.el_methods.specs.Results as result
 use Rattle.el_sessions.specs.Sessions.{Subscription, is_to, subscribed, unsubscribed}
@@ -124,7 +124,7 @@ module _ (chain : Chain) (kept : List Tx) where
   IsAllTold s = AllTold (status chain kept) s.subs
 
   same_session : (s : Session) (r : Result Data Refusal) → IsAllTold s
-      → IsAllTold (after s (with_session s r))
+      → IsAllTold (after s (answer_with_session s r))
   same_session s (Ok answer) was = was
   same_session s (Err r) was = was
 

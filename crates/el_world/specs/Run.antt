@@ -52,9 +52,9 @@ unless_of p None = None
 unless_of p (Some c) = if c.peer == p then None else Some c
 
 -- the closing is of this peer
-abbrev pub Closes : Option Closing → ℕ → Type 0
-Closes None p = ⊥
-Closes (Some c) p = c.peer ≡ p
+abbrev pub IsClosingOf : Option Closing → ℕ → Type 0
+IsClosingOf None p = ⊥
+IsClosingOf (Some c) p = c.peer ≡ p
 
 -- The messages of a turn go out in order, and then its closing. Before a message to it a client, also one
 -- that would be closed then, may be closed for a departure: it gets nothing more, and is not closed again.
@@ -69,7 +69,7 @@ pub data Delivers : World → List Message → Option Closing → List Message �
       → Delivers world (m ∷ messages) closing (m ∷ sent) closings losses next
   loses : (world : World) (m : Message) (messages : List Message) (closing : Option Closing) (reason : Why)
       (sent : List Message) (closings : List Closing) (losses : List Deed) (next : World)
-      → (is_client m.peer world ≡ true) ⊎ Closes closing m.peer → IsDeparture reason
+      → (is_client m.peer world ≡ true) ⊎ IsClosingOf closing m.peer → IsDeparture reason
       → Delivers (without_client m.peer world) (to_others m.peer messages) (unless_of m.peer closing)
       sent closings losses next
       → Delivers world (m ∷ messages) closing sent (record { peer = m.peer; why = reason } ∷ closings)

@@ -209,8 +209,8 @@ pub record Standing : Type 0 where
   pub desk : DeskState
 
 -- these two as one
-abbrev pub standing : client.Session → DeskState → Standing
-standing session desk = record { client = session; desk = desk }
+abbrev pub standing_of : client.Session → DeskState → Standing
+standing_of session desk = record { client = session; desk = desk }
 
 -- What comes of a client's line over the side: each of its requests is answered as it is defined, or that a
 -- device failed, which is lost. A broadcast goes to the desk. A request that reads the block files is
@@ -229,11 +229,13 @@ Comes tells side bytes was losses now result =
 pub data IsAnswered (tells : Type 0) (world : World) (p : ℕ) (bytes : List ℕ) (session : Session)
     (outs : Outs) (losses : List Deed) (next : World) : Type 0 where
   replied : (reply : LineReply) (kept : client.Session) (desk : DeskState)
-      → Comes tells world.side bytes (standing session.client world.desk) losses (standing kept desk) (Ok reply)
+      → Comes tells world.side bytes (standing_of session.client world.desk) losses (standing_of kept desk)
+      (Ok reply)
       → outs ≡ outs_of_reply p reply → next ≡ after_reply p reply session kept (record world { desk = desk })
       → IsAnswered tells world p bytes session outs losses next
   starved : (e : OutOfMemory) (kept : client.Session) (desk : DeskState)
-      → Comes tells world.side bytes (standing session.client world.desk) losses (standing kept desk) (Err e)
+      → Comes tells world.side bytes (standing_of session.client world.desk) losses (standing_of kept desk)
+      (Err e)
       → outs ≡ closes_memory p → next ≡ without_client p (record world { desk = desk })
       → IsAnswered tells world p bytes session outs losses next
 

@@ -13,8 +13,8 @@ ghost use Rattle.el_world.specs.LastTold.{IsLastTold};
 use el_outside::Archive;
 
 /// Where each of a client's subscriptions was told its status over a sure side, each is after a line of it
-/// that is replied to: `blockchain.scripthash.subscribe` notes the status that it answers, `unsubscribe` drops
-/// one, and no other call changes them.
+/// that is replied to: `blockchain.scripthash.subscribe` notes the status that it answers, `unsubscribe`
+/// drops one, and no other call changes them.
 pub fn replies_keep_told<A: Archive>()
     ensures { (side : Side) (bytes : List ℕ) (was now : Standing) (losses : List Deed)
         (reply : line.LineReply) → IsSure side → AllTold (status side.chain side.kept) was.client.subs

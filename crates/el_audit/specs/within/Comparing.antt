@@ -28,7 +28,7 @@ wanted_claim script entries coins = record {
 
 -- The lists have the history and the coins that the chain gives of the claim's script hash, and these coins
 -- hold no more than all the money that there can be.
-pub record IsGiven {S R : Type 0} (chain : Chain) (histories : IndexMap Hash32 (List Entry) S)
+pub record IsGivenByChain {S R : Type 0} (chain : Chain) (histories : IndexMap Hash32 (List Entry) S)
     (coins : IndexMap Hash32 (List Coin) R) (claim : Claim) : Type 0 where
   pub history : list_of histories claim.script ≡ Some (history chain claim.script.0)
   pub unspent : list_of coins claim.script ≡ Some (unspent chain claim.script.0)
@@ -37,4 +37,4 @@ pub record IsGiven {S R : Type 0} (chain : Chain) (histories : IndexMap Hash32 (
 -- the lists have what the chain gives of each of the claims
 abbrev pub AreGiven : {S R : Type 0} → Chain → List Claim → IndexMap Hash32 (List Entry) S
     → IndexMap Hash32 (List Coin) R → Type 0
-AreGiven chain claims histories coins = AllByRecursion (IsGiven chain histories coins) claims
+AreGiven chain claims histories coins = AllByRecursion (IsGivenByChain chain histories coins) claims

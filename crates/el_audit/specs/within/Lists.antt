@@ -6,8 +6,8 @@ use Rattle.el_base.specs.declared.hash.Hash32.{Hash32}
 use Rattle.el_chain.specs.Headers.{same_hash}
 
 -- whether the script hash is one of the set's
-abbrev pub is_among : {S : Type 0} → IndexSet Hash32 S → Hash32 → Bool
-is_among names s = contains same_hash names s
+abbrev pub is_in_set : {S : Type 0} → IndexSet Hash32 S → Hash32 → Bool
+is_in_set names s = contains same_hash names s
 
 -- the list that is kept by the script hash
 abbrev pub list_of : {T S : Type 0} → IndexMap Hash32 (List T) S → Hash32 → Option (List T)

@@ -52,6 +52,6 @@ abbrev pub coin_in_table : {S : Type 0} → IndexMap Outpoint (Option Coin) S �
 coin_in_table own o = option_flatten (get same_outpoint own o)
 
 -- the coins after these are put in, one after the other
-abbrev pub put_all : List Coin → List Coin → List Coin
-put_all [] coins = coins
-put_all (c ∷ cs) coins = put_all cs (add_coin c coins)
+abbrev pub put_coins : List Coin → List Coin → List Coin
+put_coins [] coins = coins
+put_coins (c ∷ cs) coins = put_coins cs (add_coin c coins)

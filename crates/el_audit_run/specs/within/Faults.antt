@@ -25,6 +25,6 @@ IsUnreached tip path.Unconnected r = r ≡ Ok (finding.NoPath tip)
 IsUnreached tip path.Memory r = r ≡ Err audit.Memory
 
 -- what is found where a block isn't as it should be
-abbrev pub IsUnread : MoveFault → Finding → Type 0
-IsUnread e (finding.BadBlock block flaw) = move_refused e ≡ Some (block_refused block flaw)
-IsUnread e other = ⊥
+abbrev pub IsFaultyBlock : MoveFault → Finding → Type 0
+IsFaultyBlock e (finding.BadBlock block flaw) = move_refused e ≡ Some (block_refused block flaw)
+IsFaultyBlock e other = ⊥

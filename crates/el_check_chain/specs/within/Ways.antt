@@ -26,7 +26,7 @@ is_tip None tip = false
 is_tip (Some last) tip = same_hash last tip
 
 -- They and what was computed once stand for the side, which is sure and is still to put in these blocks.
-pub record StandWith {G A : Type 0} (of : Ghosts G A) (now : Beneath G A) (holdings : Holdings)
+pub record StandForSide {G A : Type 0} (of : Ghosts G A) (now : Beneath G A) (holdings : Holdings)
     (caches : Caches) (left : List Node) (side : Side) : Type 0 where
   pub sure : IsSure side
   pub start : Chain
@@ -44,15 +44,15 @@ pub record AreUnderWay {G A : Type 0} (of : Ghosts G A) (was now : Beneath G A) 
     (caches : Caches) (left : List Node) (first : Side) (n : ℕ) : Type 0 where
   pub last : Side
   pub moves : MovesOn of.files first n last
-  pub stand : StandWith of now holdings caches left last
+  pub stand : StandForSide of now holdings caches left last
   pub later : IsLater of was now
 
 -- A tip line led to a side that has nothing left to do.
-pub record IsLed {G A : Type 0} (of : Ghosts G A) (was now : Beneath G A) (holdings : Holdings)
+pub record IsLedToEnd {G A : Type 0} (of : Ghosts G A) (was now : Beneath G A) (holdings : Holdings)
     (caches : Caches) (side : Side) (tip : Hash32) (n : ℕ) : Type 0 where
   pub last : Side
   pub leads : LeadsTo of.files side tip n last
-  pub stand : StandWith of now holdings caches [] last
+  pub stand : StandForSide of now holdings caches [] last
   pub later : IsLater of was now
 
 -- What a crash at some moment between might have left stands for the chain.

@@ -51,7 +51,7 @@ pub record TakingOn (counts : HeadCounts) (bs : List ListedBlock) (by : ℕ) (st
   pub real_ins : length real.ins ≡ length before.ins + inputs
 
 -- Lists with the same outputs as these, and with one transaction more, which has that number and txid.
-pub record IsNext (l next : Lists) (number : ℕ) (txid : Hash32) : Type 0 where
+pub record IsNextTx (l next : Lists) (number : ℕ) (txid : Hash32) : Type 0 where
   pub number_is : number ≡ length l.txs
   pub front : take number next.txs ≡ l.txs
   pub id : txid_at number next.txs ≡ txid

@@ -32,7 +32,7 @@ pub record Reached (counts : HeadCounts) (bs : List ListedBlock) (l : Lists) (ro
 
 -- There is room for so many inputs and outputs more, and no table of script hashes or entries has more rows
 -- than a table may have.
-pub record HasRoom (l : Lists) (inputs outputs : ℕ) : Type 0 where
+pub record HasRoomFor (l : Lists) (inputs outputs : ℕ) : Type 0 where
   pub ins : length l.ins + inputs ≤ row_limit 5
   pub outs : length l.outs + outputs ≤ row_limit 4
   pub scripts : length l.scripts ≤ row_limit 6
@@ -50,7 +50,7 @@ OutsInTurn first (t ∷ ts) count = (t.first_out ≡ first) × OutsInTurn (first
 
 -- What holds before and after a transaction: all outputs stand in turn, and no table of script hashes or
 -- entries has too many rows.
-pub record IsBetween (l : Lists) : Type 0 where
+pub record IsBetweenTxs (l : Lists) : Type 0 where
   pub outs : OutsInTurn 0 l.txs (length l.outs)
   pub scripts : length l.scripts ≤ row_limit 6
   pub entries : length l.entries ≤ row_limit 8
@@ -72,7 +72,7 @@ pub record IsSmall (p : PreparedTx) : Type 0 where
   pub money : values p.outputs ≤ max_money
 
 -- The tables of blocks, transactions, outputs and inputs have room for it, in a block of that height.
-pub record IsCounted (height : ℕ) (p : PreparedTx) (l : Lists) : Type 0 where
+pub record FitsTables (height : ℕ) (p : PreparedTx) (l : Lists) : Type 0 where
   pub block : height < row_limit 1
   pub txs : length l.txs < row_limit 2
   pub outs : length l.outs + length p.outputs ≤ row_limit 4
@@ -100,13 +100,13 @@ pub record LedTo {E : Type 0} (counts : HeadCounts) (bs : List ListedBlock) (row
   pub reached : Reached counts bs lists rows sum
 
 -- what the output of that number holds, and 0 for none
-abbrev pub value_of : Option ℕ → List ListedOut → ℕ
-value_of None outs = 0
-value_of (Some k) outs = (get_or outs k no_out).value
+abbrev pub output_amount : Option ℕ → List ListedOut → ℕ
+output_amount None outs = 0
+output_amount (Some k) outs = (get_or outs k no_out).value
 
 -- what the coin of the outpoint holds, among the first transactions, so many
-abbrev pub coin_value : Outpoint → ℕ → Lists → ℕ
-coin_value o count l = value_of (coin_number o (take count l.txs) l.outs) l.outs
+abbrev pub coin_amount : Outpoint → ℕ → Lists → ℕ
+coin_amount o count l = output_amount (coin_number o (take count l.txs) l.outs) l.outs
 
 -- the transaction of that number has an entry with the script hash of each of these outputs, by their numbers
 abbrev pub touch_coins : ℕ → List ℕ → Lists → Lists
@@ -114,9 +114,9 @@ touch_coins by [] l = l
 touch_coins by (k ∷ ks) l = touch_coins by ks (add_entry (script_of_output k l) by l)
 
 -- the script hashes of outputs
-abbrev pub scripts_of : List (ℕ × Hash32) → List Hash32
-scripts_of [] = []
-scripts_of (o ∷ os) = o.1 ∷ scripts_of os
+abbrev pub output_scripts : List (ℕ × Hash32) → List Hash32
+output_scripts [] = []
+output_scripts (o ∷ os) = o.1 ∷ output_scripts os
 
 -- the lists with the transaction and its outputs, after those in which its coins are spent
 abbrev pub made_by : ListedTx → List (ℕ × Hash32) → Lists → Lists
@@ -134,7 +134,7 @@ pub record TouchingOn (counts : HeadCounts) (bs : List ListedBlock) (rows : held
   pub lists : Lists
   pub left : P lists
   pub reached : Reached counts bs lists rows sum
-  pub room : HasRoom lists 0 outputs
+  pub room : HasRoomFor lists 0 outputs
   pub txs : lists.txs ≡ before.txs
   pub outs : lists.outs ≡ before.outs
   pub ins : lists.ins ≡ before.ins
@@ -146,7 +146,7 @@ pub record FundingOn (counts : HeadCounts) (bs : List ListedBlock) (rows : held.
   pub lists : Lists
   pub left : P lists
   pub reached : Reached counts bs lists rows sum
-  pub room : HasRoom lists 0 outputs
+  pub room : HasRoomFor lists 0 outputs
   pub same : lists.txs ≡ txs
   pub fit : unspent_sum lists.outs + more < 2 ^ 64
 
@@ -157,5 +157,5 @@ pub record LeadingOn (counts : HeadCounts) (bs : List ListedBlock) (rows : held.
   pub lists : Lists
   pub left : P lists
   pub reached : Reached counts bs lists rows sum
-  pub between : IsBetween lists
+  pub between : IsBetweenTxs lists
   pub within : sum ≤ max_money

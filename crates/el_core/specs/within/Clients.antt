@@ -5,7 +5,7 @@ use Rattle.std.specs.Prelude.{IfSome, OnSome, nat_lt, Bool, not, map, take, zero
 use Rattle.el_base.specs.declared.hash.Hash32.{Hash32}
 use Rattle.el_base.specs.declared.memory.OutOfMemory.{OutOfMemory}
 use Rattle.el_chain.specs.Chains.{Chain}
-use Rattle.el_mempool.specs.Standing.{StandsFor}
+use Rattle.el_mempool.specs.Standing.{KeptStandFor}
 use Rattle.el_relay.specs.Desk.{DeskState}
 use Rattle.el_replies.specs.Spending.{AskedGhosts, Asking, Did}
 use Rattle.el_side.specs.Deeds.{Deed}
@@ -17,8 +17,8 @@ use Rattle.el_subs.specs.Notices.{notices, notified, IsNotice}
 use Rattle.el_side.specs.declared.holdings.Holdings.{Holdings}
 use Rattle.el_side.specs.Side.{Side, IsSure}
 use Rattle.el_world.specs.World as model
-use Rattle.el_world.specs.World.{client_limit, line_limit, new_client, standing, Comes, StaysSubscribed, outs_of_reply, texts_to, closes_long, closes_memory, closes_disk, closes_surplus}
-use Rattle.el_lines.specs.LineStates.{LineState, IsAt, as_listed}
+use Rattle.el_world.specs.World.{client_limit, line_limit, new_client, standing_of, Comes, StaysSubscribed, outs_of_reply, texts_to, closes_long, closes_memory, closes_disk, closes_surplus}
+use Rattle.el_lines.specs.LineStates.{LineState, WasFed, as_listed}
 use Rattle.el_lines.specs.declared.line_buffer.LineEvent as met
 use Rattle.el_lines.specs.declared.line_buffer.LineEvent.TheVariants as event
 use Rattle.el_core.specs.State.{State, ClientState, IsHeardOut, is_numbered, waiting, work_of_client}
@@ -26,10 +26,10 @@ use Rattle.el_core.specs.Turn.{outs_of}
 use Rattle.el_core.specs.declared.out.Outs.{Outs}
 
 -- a client that has sent nothing
-pub record IsFresh (p : ℕ) (c : ClientState) : Type 0 where
+pub record IsNewClient (p : ℕ) (c : ClientState) : Type 0 where
   pub peer : c.peer ≡ p
   pub limit : c.buffer.limit ≡ line_limit
-  pub at : IsAt c.buffer [] 0
+  pub at : WasFed c.buffer [] 0
   pub kept : c.lost ≡ false
   pub session : c.session ≡ new_client
   pub waits : c.waits ≡ false
@@ -37,7 +37,7 @@ pub record IsFresh (p : ℕ) (c : ClientState) : Type 0 where
 -- a peer comes: it is a client, one too many, or the node, which is none
 pub data Opens {G : Type 0} (p : ℕ) (s next : State G) : Type 0 where
   node : p ≡ 0 → next ≡ s → Opens p s next
-  joins : (p ≡ 0 → ⊥) → (c : ClientState) → IsFresh p c → nat_lt (length s.clients) client_limit ≡ true
+  joins : (p ≡ 0 → ⊥) → (c : ClientState) → IsNewClient p c → nat_lt (length s.clients) client_limit ≡ true
       → next ≡ record s { clients = s.clients ++ c ∷ [] } → Opens p s next
   one_more : (p ≡ 0 → ⊥) → nat_lt (length s.clients) client_limit ≡ false
       → next ≡ record s { surplus = Some p } → Opens p s next
@@ -52,10 +52,10 @@ begun_at tip s = record s { clients = all_wait s.clients; before = tip; touched 
 
 -- the lines are those after these bytes were fed too
 abbrev pub IsFed : LineState → List ℕ → LineState → Type 0
-IsFed b bytes next = (fed : List ℕ) (given : ℕ) → IsAt b fed given → IsAt next (fed ++ bytes) given
+IsFed b bytes next = (fed : List ℕ) (given : ℕ) → WasFed b fed given → WasFed next (fed ++ bytes) given
 
 -- the client's bytes are kept, or lost where memory runs out
-pub record Keeps (bytes : List ℕ) (c next : ClientState) : Type 0 where
+pub record KeepsBytes (bytes : List ℕ) (c next : ClientState) : Type 0 where
   pub limit : next.buffer.limit ≡ c.buffer.limit
   pub peer : next.peer ≡ c.peer
   pub session : next.session ≡ c.session
@@ -63,16 +63,16 @@ pub record Keeps (bytes : List ℕ) (c next : ClientState) : Type 0 where
   pub kept : MatchBool next.lost (next.buffer ≡ c.buffer) (IsFed c.buffer bytes next.buffer)
 
 -- the list with another client at that place, or without it
-abbrev pub replaced : {A : Type 0} → ℕ → Option A → List A → List A
-replaced i next [] = []
-replaced zero (Some y) (x ∷ xs) = y ∷ xs
-replaced zero None (x ∷ xs) = xs
-replaced (suc i) next (x ∷ xs) = x ∷ replaced i next xs
+abbrev pub client_replaced : {A : Type 0} → ℕ → Option A → List A → List A
+client_replaced i next [] = []
+client_replaced zero (Some y) (x ∷ xs) = y ∷ xs
+client_replaced zero None (x ∷ xs) = xs
+client_replaced (suc i) next (x ∷ xs) = x ∷ client_replaced i next xs
 
 -- there is no client with this number, or the first stands there
-abbrev pub IsPlace : ℕ → List ClientState → Option ℕ → Type 0
-IsPlace p clients None = AllByRecursion (λ (c : ClientState). is_numbered p c ≡ false) clients
-IsPlace p clients (Some i) =
+abbrev pub IsClientPlace : ℕ → List ClientState → Option ℕ → Type 0
+IsClientPlace p clients None = AllByRecursion (λ (c : ClientState). is_numbered p c ≡ false) clients
+IsClientPlace p clients (Some i) =
     (c : ClientState) × (slice_get clients i ≡ Some c) × (c.peer ≡ p)
     × AllByRecursion (λ (d : ClientState). is_numbered p d ≡ false) (take i clients)
 
@@ -85,24 +85,25 @@ IsFirstWaiting clients (Some i) =
 -- the client at that place keeps its bytes, or that there was no memory for them
 abbrev pub HearsAt : ℕ → List ℕ → List ClientState → List ClientState → Type 0
 HearsAt i bytes clients next =
-    (c kept : ClientState) × (slice_get clients i ≡ Some c) × Keeps bytes c kept
-    × (next ≡ replaced i (Some kept) clients)
+    (c kept : ClientState) × (slice_get clients i ≡ Some c) × KeepsBytes bytes c kept
+    × (next ≡ client_replaced i (Some kept) clients)
 
 -- bytes of a peer come, which is a client or nobody; it then speaks
 pub data Hears {G : Type 0} (p : ℕ) (bytes : List ℕ) (s next : State G) : Type 0 where
-  nobody : IsPlace p s.clients None → next ≡ s → Hears p bytes s next
-  client : (i : ℕ) (c kept : ClientState) → slice_get s.clients i ≡ Some c → c.peer ≡ p → Keeps bytes c kept
-      → next ≡ record s { clients = replaced i (Some kept) s.clients; speaker = Some p }
+  nobody : IsClientPlace p s.clients None → next ≡ s → Hears p bytes s next
+  client : (i : ℕ) (c kept : ClientState) → slice_get s.clients i ≡ Some c → c.peer ≡ p
+      → KeepsBytes bytes c kept
+      → next ≡ record s { clients = client_replaced i (Some kept) s.clients; speaker = Some p }
       → Hears p bytes s next
 
 -- the next event of the bytes that were fed, and the buffer after it
-abbrev pub Gives : LineState → LineEvent → LineState → Type 0
-Gives b e next = (fed : List ℕ) (given : ℕ) → IsAt b fed given
-    → (slice_get (lines b.limit fed) given ≡ Some e) × IsAt next fed (given + 1)
+abbrev pub GivesEvent : LineState → LineEvent → LineState → Type 0
+GivesEvent b e next = (fed : List ℕ) (given : ℕ) → WasFed b fed given
+    → (slice_get (lines b.limit fed) given ≡ Some e) × WasFed next fed (given + 1)
 
 -- the next event is a whole line
 abbrev pub NextIsLine : LineState → Type 0
-NextIsLine b = (fed : List ℕ) (given : ℕ) → IsAt b fed given → given ≤ length (lines b.limit fed)
+NextIsLine b = (fed : List ℕ) (given : ℕ) → WasFed b fed given → given ≤ length (lines b.limit fed)
     → (bytes : List ℕ) × (slice_get (lines b.limit fed) given ≡ Some (line bytes))
 
 -- What a turn finds and leaves beside the clients: what the desk of broadcasts kept, and what it keeps; and
@@ -127,11 +128,11 @@ pub record IsIdly (rose : Passing) : Type 0 where
 pub data LineAnswered (tells : Type 0) (side : Side) (rose : Passing) (p : ℕ) (bytes : List ℕ)
     (was now : known.Session) (outs : model.Outs) (stays : Bool) : Type 0 where
   replied : (losses : List Deed) (reply : LineReply)
-      → Comes tells side bytes (standing was rose.was) losses (standing now rose.now) (Ok reply)
+      → Comes tells side bytes (standing_of was rose.was) losses (standing_of now rose.now) (Ok reply)
       → outs ≡ outs_of_reply p reply → stays ≡ not reply.closes → rose.did losses
       → LineAnswered tells side rose p bytes was now outs stays
   starved : (losses : List Deed) (e : OutOfMemory)
-      → Comes tells side bytes (standing was rose.was) losses (standing now rose.now) (Err e)
+      → Comes tells side bytes (standing_of was rose.was) losses (standing_of now rose.now) (Err e)
       → outs ≡ closes_memory p → stays ≡ false → rose.did losses
       → LineAnswered tells side rose p bytes was now outs stays
 
@@ -141,11 +142,11 @@ left_if true c = Some c
 left_if false c = None
 
 -- what is sent or closed for an event of this client, what is then kept of it, and whether it stays
-abbrev pub Answers : Type 0 → Side → Passing → ℕ → met.LineEvent → known.Session
+abbrev pub AnswersClient : Type 0 → Side → Passing → ℕ → met.LineEvent → known.Session
     → known.Session → model.Outs → Bool → Type 0
-Answers tells side rose p (event.Line bytes) was now outs stays =
+AnswersClient tells side rose p (event.Line bytes) was now outs stays =
     LineAnswered tells side rose p bytes was now outs stays
-Answers tells side rose p (event.TooLong limit) was now outs stays =
+AnswersClient tells side rose p (event.TooLong limit) was now outs stays =
     (outs ≡ closes_long p) × (stays ≡ false) × IsIdly rose
 
 -- a turn of a client
@@ -159,8 +160,8 @@ pub data ClientTurn (tells : Type 0) (side : Side) (rose : Passing) (c : ClientS
       → outs_of o ≡ closes_memory c.peer → next ≡ None → IsIdly rose → ClientTurn tells side rose c outs next
   -- its next event
   answers : (o : Outs) (e : met.LineEvent) (b : LineState) (now : known.Session) (stays : Bool)
-      → c.lost ≡ false → b.limit ≡ c.buffer.limit → Gives c.buffer (as_listed e) b
-      → Answers tells side rose c.peer e c.session now (outs_of o) stays
+      → c.lost ≡ false → b.limit ≡ c.buffer.limit → GivesEvent c.buffer (as_listed e) b
+      → AnswersClient tells side rose c.peer e c.session now (outs_of o) stays
       → next ≡ left_if stays (record c { buffer = b; session = now }) → outs ≡ Some o
       → ClientTurn tells side rose c outs next
   -- no line is left
@@ -172,7 +173,7 @@ pub record TurnsAt (says : ClientState → Option ClientState → Type 0) (i : �
   pub client : ClientState
   pub left : Option ClientState
   pub at : slice_get clients i ≡ Some client
-  pub next_is : next ≡ replaced i left clients
+  pub next_is : next ≡ client_replaced i left clients
   pub stays_is : stays ≡ is_some left
   pub same : IfSome left (λ d. (d.peer ≡ client.peer) × (d.waits ≡ client.waits))
   pub less : OnSome outs (work_of_client left < work_of_client (Some client))
@@ -188,7 +189,7 @@ speaker_after (Some o) (Some c) = Some c.peer
 pub data SpeakerSteps {G : Type 0} (tells : Type 0) (side : Side) (rose : Passing) (s : State G)
     (outs : Option Outs) (next : State G) : Type 0 where
   nobody : s.speaker ≡ None → outs ≡ None → next ≡ s → IsIdly rose → SpeakerSteps tells side rose s outs next
-  gone : (p : ℕ) → s.speaker ≡ Some p → IsPlace p s.clients None → outs ≡ None
+  gone : (p : ℕ) → s.speaker ≡ Some p → IsClientPlace p s.clients None → outs ≡ None
       → next ≡ record s { speaker = None } → IsIdly rose → SpeakerSteps tells side rose s outs next
   steps : (p i : ℕ) (c : ClientState) (left : Option ClientState) → s.speaker ≡ Some p
       → slice_get s.clients i ≡ Some c → c.peer ≡ p → ClientTurn tells side rose c outs left
@@ -196,7 +197,7 @@ pub data SpeakerSteps {G : Type 0} (tells : Type 0) (side : Side) (rose : Passin
         ledger = next.ledger;
         caches = next.caches;
         desk = next.desk;
-        clients = replaced i left s.clients;
+        clients = client_replaced i left s.clients;
         speaker = speaker_after outs left;
       } → SpeakerSteps tells side rose s outs next
 
@@ -222,7 +223,7 @@ told_client side c =
 pub record IsToTell {G : Type 0} (stands : G → Chain → Type 0) (l : G) (holdings : Holdings)
     (touched : List Hash32) (side : Side) (c : ClientState) : Type 0 where
   pub stood : IsSure side → stands l side.chain
-  pub set : IsSure side → StandsFor holdings.pool.entries side.chain side.kept
+  pub set : IsSure side → KeptStandFor holdings.pool.entries side.chain side.kept
   pub others : IsSure side → OthersTold (status side.chain side.kept) touched c.session.subs
 
 -- The client gets some notices, and subscribes to the same as before.
@@ -250,7 +251,7 @@ pub record TellsAt (says : ClientState → Option ClientState → Type 0) (i : �
   pub client : ClientState
   pub left : Option ClientState
   pub at : slice_get clients i ≡ Some client
-  pub next_is : next ≡ replaced i left clients
+  pub next_is : next ≡ client_replaced i left clients
   pub told : IfSome left (λ d. d.waits ≡ false)
   pub same : IfSome left (λ d. (d.buffer ≡ client.buffer) × (d.peer ≡ client.peer))
   pub said : says client left

@@ -9,7 +9,7 @@ use Rattle.el_lines.specs.declared.line_buffer.LineEvent as met
 use Rattle.el_lines.specs.declared.line_buffer.LineEvent.TheVariants as event
 use Rattle.el_replies.specs.RowBounds.{LineReads}
 use Rattle.el_core.specs.State.{ClientState}
-use Rattle.el_core.specs.within.Clients.{Gives}
+use Rattle.el_core.specs.within.Clients.{GivesEvent}
 
 -- so many rows for what was met in its bytes: none for a line that is too long
 abbrev pub EventReads : Chain → ℕ → met.LineEvent → ℕ → Type 0
@@ -21,7 +21,7 @@ pub record NextReads (chain : Chain) (buckets : ℕ) (c : ClientState) (n : ℕ)
   pub kept : c.lost ≡ false
   pub bytes : List ℕ
   pub next : LineState
-  pub gives : Gives c.buffer (line bytes) next
+  pub gives : GivesEvent c.buffer (line bytes) next
   pub reads : LineReads chain buckets (line_says bytes) n
 
 -- so many rows for a turn of the client: none, or those of its next line

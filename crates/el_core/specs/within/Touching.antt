@@ -11,8 +11,8 @@ abbrev pub is_held : List ClientState → Hash32 → Bool
 is_held clients s = list_any (λ (c : ClientState). is_subscribed s c.session.subs) clients
 
 -- of the script hashes to which clients subscribe, each of the first and of the second is among all
-abbrev pub Covers : List ClientState → List Hash32 → List Hash32 → List Hash32 → Type 0
-Covers clients first second all =
+abbrev pub HasAllSubscribed : List ClientState → List Hash32 → List Hash32 → List Hash32 → Type 0
+HasAllSubscribed clients first second all =
     (s : Hash32) → is_held clients s ≡ true → is_among all s ≡ false
     → (is_among first s ≡ false) × (is_among second s ≡ false)
 

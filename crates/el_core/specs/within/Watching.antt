@@ -11,5 +11,5 @@ held_keys [] = []
 held_keys (c ∷ cs) = keys_of c.session.subs ++ held_keys cs
 
 -- beside each script hash stands how many of the clients subscribe to it
-abbrev pub Counts : List (Hash32 × ℕ) → List ClientState → Type 0
-Counts entries clients = (s : Hash32) → counted entries s ≡ times s (held_keys clients)
+abbrev pub CountWatchers : List (Hash32 × ℕ) → List ClientState → Type 0
+CountWatchers entries clients = (s : Hash32) → counted entries s ≡ times s (held_keys clients)

@@ -6,7 +6,7 @@ use Rattle.std.proofs.lemmas.List.{get_or_past, take_all}
 use Rattle.std.proofs.lemmas.Bool.{ne_eqb, le-ltb, or_from, not_from_false, and_from}
 use Rattle.el_outside.specs.Trace.{ArrivalWithBytes, opened, brought, closed, quiet, ended, Closing, Trace, opens, leaves, is_new}
 use Rattle.el_fakes.specs.Archives.{ArchiveState, file_bytes, bytes_now, size_ahead, padded_size, padding_now}
-use Rattle.el_fakes.specs.Greatest.{number, greatest_arrived, greatest_closed, greatest}
+use Rattle.el_fakes.specs.Greatest.{number, greatest_arrived, greatest_closed, greatest_peer}
 
 -- a file that isn't there has no bytes
 pub none_at : (files : List (List ℕ)) (file : ℕ) → length files ≤ file → file_bytes files file ≡ []
@@ -84,7 +84,7 @@ none_closed (c ∷ cs) p above =
     or_from _ _ (ne_eqb p c.peer (λ same. omega arith)) (none_closed cs p (omega arith))
 
 -- a number above the greatest in the trace is new
-pub greatest_is_last : (trace : Trace) (p : ℕ) → greatest trace < p → IsTrue (is_new trace p)
+pub greatest_is_last : (trace : Trace) (p : ℕ) → greatest_peer trace < p → IsTrue (is_new trace p)
 greatest_is_last trace p above =
     and_from _ _ (not_from_false _ (none_opens trace.arrivals p (omega arith)))
     (and_from _ _ (not_from_false _ (none_leaves trace.arrivals p (omega arith)))

@@ -27,12 +27,12 @@ peers_after peers arrival.Quiet = peers
 peers_after peers arrival.Ended = peers
 
 -- the greatest number of a peer after an arrival
-abbrev pub last_after : ℕ → Arrival → ℕ
-last_after last (arrival.Opened p) = max last p
-last_after last (arrival.Bytes p n) = last
-last_after last (arrival.Closed p) = max last p
-last_after last arrival.Quiet = last
-last_after last arrival.Ended = last
+abbrev pub greatest_after : ℕ → Arrival → ℕ
+greatest_after last (arrival.Opened p) = max last p
+greatest_after last (arrival.Bytes p n) = last
+greatest_after last (arrival.Closed p) = max last p
+greatest_after last arrival.Quiet = last
+greatest_after last arrival.Ended = last
 
 -- the peer was closed
 abbrev pub closed_in : List Closed → ℕ → Bool

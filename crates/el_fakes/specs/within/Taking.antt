@@ -9,7 +9,7 @@ use Rattle.el_outside.specs.Trace.{IsNextArrival, with_bytes, names}
 use Rattle.el_fakes.specs.declared.kept.Closed.{Closed}
 use Rattle.el_fakes.specs.declared.taking.Spot.{Spot}
 use Rattle.el_fakes.specs.declared.taking.Taken.{Taken}
-use Rattle.el_fakes.specs.within.Peers.{adds, last_after, closed_in}
+use Rattle.el_fakes.specs.within.Peers.{adds, greatest_after, closed_in}
 
 -- the step without the bytes that were handed over
 abbrev pub step_left : ℕ → Coming → Coming
@@ -31,7 +31,7 @@ steps_from spot steps = steps_left spot.given (drop spot.place steps)
 -- peer that was closed. Each place opens one peer at most.
 pub record MayBeHanded (taken : Taken) (place last : ℕ) (closed : List Closed) (buf : List ℕ) : Type 0 where
   pub forward : place + adds taken.arrival ≤ taken.spot.place
-  pub lawful : IsNextArrival last taken.arrival (last_after last taken.arrival)
+  pub lawful : IsNextArrival last taken.arrival (greatest_after last taken.arrival)
   pub silent : (p : ℕ) → IsTrue (names p (with_bytes taken.arrival buf)) → IsTrue (closed_in closed p) → ⊥
 
 -- after a piece of the bytes: in the step while bytes are left, and else after the step

@@ -20,14 +20,14 @@ abbrev pub greatest : (Node → Bool) → List Node → Option ℕ
 greatest test nodes = greatest_from 0 test nodes
 
 -- the node names that hash as the one before it, so it is a child of the node with the hash
-abbrev pub names : Hash32 → Node → Bool
-names h n = same_hash n.header.previous h
+abbrev pub is_child_of : Hash32 → Node → Bool
+is_child_of h n = same_hash n.header.previous h
 
 -- beside each node stands the number of the newest node before it that names the same hash
 pub record AreOlder (nodes : List Node) (older : List (Option ℕ)) : Type 0 where
   pub count : length older ≡ length nodes
   pub each : (i : ℕ) (n : Node) → slice_get nodes i ≡ Some n
-      → slice_get older i ≡ Some (greatest (names n.header.previous) (take i nodes))
+      → slice_get older i ≡ Some (greatest (is_child_of n.header.previous) (take i nodes))
 
 -- how many nodes are not attached
 abbrev pub open_count : List (Option ℕ) → ℕ
@@ -42,16 +42,16 @@ is_open_height (Some None) = true
 is_open_height (Some (Some height)) = false
 
 -- the node with that number is there and not attached
-abbrev pub is_open : List (Option ℕ) → ℕ → Bool
-is_open heights i = is_open_height (slice_get heights i)
+abbrev pub is_unattached : List (Option ℕ) → ℕ → Bool
+is_unattached heights i = is_open_height (slice_get heights i)
 
 -- the heights after the node was attached, unless it was before
 abbrev pub attached_at : List (Option ℕ) → ℕ → ℕ → List (Option ℕ)
-attached_at heights i height = if is_open heights i then slice_set heights i (Some height) else heights
+attached_at heights i height = if is_unattached heights i then slice_set heights i (Some height) else heights
 
 -- the stack after that: a node that is attached now has children to be looked at
 abbrev pub stacked : List (Option ℕ) → ℕ → List ℕ → List ℕ
-stacked heights i stack = if is_open heights i then stack ++ i ∷ [] else stack
+stacked heights i stack = if is_unattached heights i then stack ++ i ∷ [] else stack
 
 -- the number stands in the list
 abbrev pub Has : List ℕ → ℕ → Type 0
@@ -101,7 +101,7 @@ ChildrenLeft parent last i j = (j ≡ parent) × IsUpTo last i
 
 -- the newest child of each node, by its hash
 abbrev pub AreNewest : {S : Type 0} → List Node → IndexMap Hash32 ℕ S → Type 0
-AreNewest nodes children = (h : Hash32) → get same_hash children h ≡ greatest (names h) nodes
+AreNewest nodes children = (h : Hash32) → get same_hash children h ≡ greatest (is_child_of h) nodes
 
 -- What holds of the tables of a header tree between calls.
 pub record IsTable (t : Table) : Type 0 where
@@ -124,7 +124,7 @@ pub record AreSame (s t : Table) : Type 0 where
   pub first : s.genesis ≡ t.genesis
 
 -- there is room for one node more, and for all nodes on the stack
-pub record HasRoom (t : Table) : Type 0 where
+pub record HasNodeRoom (t : Table) : Type 0 where
   pub nodes : vec_len t.nodes < vec_capacity t.nodes
   pub numbers : 0 < spare t.numbers
   pub children : 0 < spare t.children

@@ -23,15 +23,16 @@ gone_change None = []
 gone_change (Some k) = fee_change false k ∷ []
 
 -- an output of the transaction
-abbrev pub output : Hash32 → ℕ → Outpoint
-output id n = record { txid = id; index = n }
+abbrev pub outpoint_numbered : Hash32 → ℕ → Outpoint
+outpoint_numbered id n = record { txid = id; index = n }
 
 -- The takers of the first n outputs of the transaction are there.
 abbrev pub AreThere : (Outpoint → Option Hash32) → Hash32 → ℕ → List Hash32 → Type 0
-AreThere taker id n ids = (i : ℕ) → i < n → (x : Hash32) → taker (output id i) ≡ Some x → has ids x ≡ true
+AreThere taker id n ids = (i : ℕ) → i < n → (x : Hash32) → taker (outpoint_numbered id i) ≡ Some x
+    → has ids x ≡ true
 
 -- The takers of the first n outputs of the transaction were added, and nothing else.
-pub record Grown (taker : Outpoint → Option Hash32) (id : Hash32) (n : ℕ)
+pub record TakersAdded (taker : Outpoint → Option Hash32) (id : Hash32) (n : ℕ)
     (old new : List Hash32) : Type 0 where
   pub more : List Hash32
   pub is : new ≡ old ++ more

@@ -12,12 +12,12 @@ use Rattle.el_chain.specs.Chains.{Chain}
 use Rattle.el_mempool.specs.declared.held.Source.{Source}
 use Rattle.el_mempool.specs.declared.held.KeptTx.{KeptTx}
 use Rattle.el_kept.specs.declared.table.Table.{Table}
-use Rattle.el_kept.specs.Named.{output_at, total_sources}
+use Rattle.el_kept.specs.Named.{kept_output, total_sources}
 use Rattle.el_mempool.specs.declared.entry.PoolLimits.{PoolLimits}
 use Rattle.el_mempool.specs.declared.fault.PoolFault.{PoolFault}
 use Rattle.el_mempool.specs.declared.fault.PoolFault.TheVariants as refusal
 use Rattle.el_mempool.specs.Sift.{any_takes}
-use Rattle.el_mempool.specs.Refusals.{where_so, overspends, full, tx_refusal}
+use Rattle.el_mempool.specs.Refusals.{where_so, overspends, over_limit, tx_refusal}
 use Rattle.el_mempool.specs.Standing.{kept_tx}
 
 -- the refusal for an input that takes the outpoint: someone takes it, or a later input does too
@@ -35,11 +35,11 @@ conflict_by taker id (i ∷ is) =
 -- outputs that hold too much, or no room for so many bytes
 abbrev pub room_by : PoolLimits → ℕ → ℕ → List Source → List TxOut → ℕ → Option PoolFault
 room_by limits count bytes ss outputs size =
-    option_or (overspends (total_sources ss) (total_value outputs)) (full limits count bytes size)
+    option_or (overspends (total_sources ss) (total_value outputs)) (over_limit limits count bytes size)
 
 -- the input takes an output of a kept transaction, by a look-up
 abbrev pub is_output_at : Table → Source → Bool
-is_output_at t s = is_some (output_at t s.from)
+is_output_at t s = is_some (kept_output t s.from)
 
 -- -1 where one of these inputs does, else 0
 abbrev pub flag_by : Table → List Source → ℤ

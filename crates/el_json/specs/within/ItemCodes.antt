@@ -10,9 +10,9 @@ use Rattle.el_json.specs.declared.request.Item.TheVariants.{Good, Invalid}
 use Rattle.el_json.specs.within.Codes.{coded_data, coded_items, coded_members}
 
 -- parameters as one of two: elements by place, or members by name
-abbrev given_by : Params → Items ⊎ Members
-given_by (Places ds) = inl ds
-given_by (Names ms) = inr ms
+abbrev items_or_members : Params → Items ⊎ Members
+items_or_members (Places ds) = inl ds
+items_or_members (Names ms) = inr ms
 
 -- the parameters that such a one is
 abbrev params_by : Items ⊎ Members → Params
@@ -20,13 +20,14 @@ params_by (inl ds) = Places ds
 params_by (inr ms) = Names ms
 
 -- there and back they are the same parameters
-pub params_back : (ps : Params) → params_by (given_by ps) ≡ ps
+pub params_back : (ps : Params) → params_by (items_or_members ps) ≡ ps
 params_back (Places ds) = refl
 params_back (Names ms) = refl
 
 -- the code of parameters, and that no two have the same
 abbrev coded_params : Coded Params
-coded_params = code_by (Items ⊎ Members) (coded⊎ coded_items coded_members) given_by params_by params_back
+coded_params = code_by (Items ⊎ Members) (coded⊎ coded_items coded_members) items_or_members params_by
+    params_back
 
 -- the code of a request: those of its id, its method and its parameters
 abbrev coded_request : Coded Request

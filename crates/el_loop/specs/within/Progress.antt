@@ -91,7 +91,8 @@ module _ {G A Y K : Type 0} (of : AllGhosts G A Y K) where
   -- how often calls of the devices have failed
   abbrev pub failed : Snapshot G A Y K → Faults
   failed now =
-      failed_beneath of.beneath (of.link.faults now.link) (of.relay.faults now.relay) (beneath now.server.ledger now.files)
+      failed_beneath of.beneath (of.link.faults now.link) (of.relay.faults now.relay)
+      (beneath now.server.ledger now.files)
 
   -- The world's clients are open, and the block files have what the world has of them.
   pub record IsReady (world : World) (now : Snapshot G A Y K) : Type 0 where
@@ -100,7 +101,8 @@ module _ {G A Y K : Type 0} (of : AllGhosts G A Y K) where
 
   -- This went over the link meanwhile, each failed call is one of these losses, and the relay was offered
   -- what they say.
-  pub record WentOn (before now : Snapshot G A Y K) (arrivals : List ArrivalWithBytes) (messages : List Message)
+  pub record WentOn (before now : Snapshot G A Y K) (arrivals : List ArrivalWithBytes)
+      (messages : List Message)
       (closings : List Closing) (losses : List Deed) : Type 0 where
     pub trace : of.link.tells
         → GoesOn (of.link.trace before.link) (of.link.trace now.link) arrivals messages closings

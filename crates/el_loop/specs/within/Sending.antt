@@ -10,7 +10,7 @@ use Rattle.el_outside.specs.declared.link.SendFault.TheVariants as fault
 use Rattle.el_chain.specs.Chains.{Chain}
 use Rattle.el_world.specs.World.{World, Session, Event, is_client, without_client}
 use Rattle.el_side.specs.Deeds.{Deed, failures, link}
-use Rattle.el_world.specs.Run.{Stop, by_disk, by_link, by_memory, lost_by, LostBy, IsDeparture, Delivers, to_others, unless_of, Closes as ToClose}
+use Rattle.el_world.specs.Run.{Stop, by_disk, by_link, by_memory, lost_by, LostBy, IsDeparture, Delivers, to_others, unless_of, IsClosingOf}
 use Rattle.el_core.specs.State.{State, Stands}
 use Rattle.el_core.specs.Turn.{GoesTo}
 use Rattle.el_loop.specs.Counts.{HasRisen}
@@ -20,10 +20,10 @@ use Rattle.el_loop.specs.declared.end.End.{End}
 use Rattle.el_loop.specs.declared.end.End.TheVariants as end
 
 -- how the run stops where sending halts for this cause
-abbrev pub stop_of : Halt → Stop
-stop_of halt.Disk = by_disk
-stop_of halt.Link = by_link
-stop_of halt.Memory = by_memory
+abbrev pub halt_stop : Halt → Stop
+halt_stop halt.Disk = by_disk
+halt_stop halt.Link = by_link
+halt_stop halt.Memory = by_memory
 
 -- how the run then ends
 abbrev pub end_of : Halt → End
@@ -103,7 +103,7 @@ pub data Delivering (world : World) (messages : List Message) (closing : Option 
   whole : sent ≡ messages → closings ≡ [] → losses ≡ [] → next ≡ world
       → Delivering world messages closing sent closings losses next None
   broken : (front : List Message) (m : Message) (more : List Message) (reason : Why)
-      → messages ≡ front ++ m ∷ more → (is_client m.peer world ≡ true) ⊎ ToClose closing m.peer
+      → messages ≡ front ++ m ∷ more → (is_client m.peer world ≡ true) ⊎ IsClosingOf closing m.peer
       → IsDeparture reason
       → sent ≡ front ++ to_others m.peer more → closings ≡ record { peer = m.peer; why = reason } ∷ []
       → losses ≡ lost_by reason → next ≡ without_client m.peer world

@@ -2,6 +2,6 @@
 use Rattle.std.specs.Prelude.{ℕ, ◌+◌, Option, None, Some}
 
 -- one more than the height of the tip, and 0 where there is no tip
-abbrev pub blocks_of : Option ℕ → ℕ
-blocks_of None = 0
-blocks_of (Some top) = top + 1
+abbrev pub block_count : Option ℕ → ℕ
+block_count None = 0
+block_count (Some top) = top + 1

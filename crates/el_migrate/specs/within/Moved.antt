@@ -13,7 +13,7 @@ use Rattle.el_tables.specs.Tables.{HeadCounts}
 use Rattle.el_pages.specs.declared.layout.TheConstants.{FORMAT_1, FORMAT_2}
 use Rattle.el_pages.specs.Layouts.{file_of}
 use Rattle.el_pages.specs.Records.{meta_of}
-use Rattle.el_migrate.specs.within.Moving.{HasRows, HasOldRows, new_rows}
+use Rattle.el_migrate.specs.within.Moving.{HasOnlyRows, HasOldRows, new_rows}
 
 -- how many rows each table then has: a table of heads has one for each bucket
 abbrev pub new_count : ℕ → List ℕ → Table → ℕ
@@ -30,7 +30,7 @@ pub record HaveOldRows (heads : HeadCounts) (bs : List ListedBlock) (l : Lists) 
 -- the files of format 2 have the rows of these blocks and lists, with 2^bits buckets, and nothing else
 abbrev pub HaveNewRows : ℕ → List ListedBlock → Lists → List ℕ → Image → Type 0
 HaveNewRows bits bs l counts files = (t : Table)
-    → HasRows t (files (file_of FORMAT_2 t)) (new_rows (2 ^ bits) bs l t) (new_count bits counts t)
+    → HasOnlyRows t (files (file_of FORMAT_2 t)) (new_rows (2 ^ bits) bs l t) (new_count bits counts t)
 
 -- each table's file has as many bytes as its rows, whatever they are
 abbrev pub AreGrown : ℕ → List ℕ → Image → Type 0
@@ -38,7 +38,7 @@ AreGrown bits counts files = (t : Table)
     → new_count bits counts t * size_of t ≡ length (files (file_of FORMAT_2 t))
 
 -- all of format 2 but the root is written: the meta row, and a closed gate
-pub record IsWritten (magic : List ℕ) (bits : ℕ) (counts : List ℕ) (files : Image) : Type 0 where
+pub record IsMetaWritten (magic : List ℕ) (bits : ℕ) (counts : List ℕ) (files : Image) : Type 0 where
   pub numbers : List ℕ
   pub are : (t : Table) → count_at numbers t ≡ new_count bits counts t
   pub meta : files 20 ≡ meta_of (head_bytes magic bits) numbers

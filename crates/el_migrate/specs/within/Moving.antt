@@ -42,7 +42,7 @@ abbrev pub new_rows : ℕ → List ListedBlock → Lists → Table → List (Lis
 new_rows buckets bs l t = bytes_of (tables_of (in_both buckets) bs l) t
 
 -- so many rows stand in a file of format 2, and nothing else
-pub record HasRows (t : Table) (file : List ℕ) (rows : List (List ℕ)) (n : ℕ) : Type 0 where
+pub record HasOnlyRows (t : Table) (file : List ℕ) (rows : List (List ℕ)) (n : ℕ) : Type 0 where
   pub long : length file ≡ n * size_of t
   pub each : (i : ℕ) → i < n → row_at (size_of t) file i ≡ get_or rows i []
 

@@ -12,7 +12,7 @@ use Rattle.el_pages.specs.declared.layout.TheConstants.{FORMAT_1}
 use Rattle.el_pages.specs.Indexes.{IsRooted}
 use Rattle.el_recovery.specs.Checks.{Found, bad_index, IsBadBody, IsIndex}
 use Rattle.el_migrate.specs.OldChecks.{IsBadOldIndex}
-use Rattle.el_migrate.specs.ImageChains.{ImageStands, StandsForOne, IsOldIndex, IsNoIndex, IsLikeOne, IsBeyond}
+use Rattle.el_migrate.specs.ImageChains.{ImageStands, StandsForOne, IsOldIndex, IsNoIndex, IsLikeOne, IsOtherFile}
 
 -- the image is an index of format 2 with 2^bits buckets
 pub record IsIndexWith (magic : List ℕ) (bits : ℕ) (image : Image) : Type 0 where
@@ -37,7 +37,7 @@ pub record IsReady {D : Type 0} (G : disk.Ghosts D) (magic : List ℕ) (bits : �
 
 -- It isn't: a call failed; or format 2 isn't live, and memory is wanting for an index of format 1, or there
 -- is none.
-pub record IsRefused (magic : List ℕ) (was now : Image) (e : OpenFault) : Type 0 where
+pub record IsOpeningRefused (magic : List ℕ) (was now : Image) (e : OpenFault) : Type 0 where
   pub live : IsRooted was → e ≡ fault.DiskFailed
   pub which : (e ≡ fault.DiskFailed)
       ⊎ (((e ≡ fault.Memory) × ((tables : Tables) × IsOldIndex magic was tables))
@@ -55,4 +55,4 @@ pub record KeepsAll {D : Type 0} (G : disk.Ghosts D) (magic : List ℕ) (old new
       → Leaves G (StandsForOne magic a b) old new
   pub like : IsRooted (G.seen old) ⊎ IsNoIndex magic (G.seen old) → Leaves G (IsLikeOne G old) old new
   pub later : G.moment old ≤ G.moment new
-  pub others : (f : ℕ) → IsBeyond f → G.seen new f ≡ G.seen old f
+  pub others : (f : ℕ) → IsOtherFile f → G.seen new f ≡ G.seen old f

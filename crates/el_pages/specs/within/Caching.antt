@@ -3,7 +3,7 @@ use Rattle.std.specs.Prelude.{◌≡◌, ◌<◌, ◌≤◌, ◌+◌, ◌*◌, �
 use Rattle.el_outside.specs.Disk.{Image}
 use Rattle.el_row_formats.specs.declared.table.Table.{Table}
 use Rattle.el_row_formats.specs.Tables.{Tables, size_of, row_at}
-use Rattle.el_page_cache.specs.Pages.{rows_in_page, row_of}
+use Rattle.el_page_cache.specs.Pages.{rows_in_page, row_number}
 use Rattle.el_pages.specs.declared.layout.TheConstants.{FORMAT_2}
 use Rattle.el_pages.specs.Layouts.{file_of}
 
@@ -20,5 +20,5 @@ pub record HaveRows (files : Image) (lists : Tables) (counts : Table → ℕ) : 
 -- the bytes are a page's: those of its rows that are whole in the file are there
 abbrev pub IsPage : Table → List ℕ → ℕ → List ℕ → Type 0
 IsPage t file n bytes =
-    (place : ℕ) → place < rows_in_page t → IsWholeIn t file (row_of t n place)
-    → row_at (size_of t) bytes place ≡ row_at (size_of t) file (row_of t n place)
+    (place : ℕ) → place < rows_in_page t → IsWholeIn t file (row_number t n place)
+    → row_at (size_of t) bytes place ≡ row_at (size_of t) file (row_number t n place)

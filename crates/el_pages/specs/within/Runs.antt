@@ -10,7 +10,8 @@ use Rattle.el_pages.specs.within.Staging.{full_writes}
 
 -- From place k on, the changes are so many rows of a table, from that number on, and their bytes stand one
 -- after another.
-pub record AreRows (changes : Changes) (k : ℕ) (t : Table) (first rows : ℕ) (bytes : List ℕ) : Type 0 where
+pub record AreConsecutiveRows (changes : Changes) (k : ℕ) (t : Table) (first rows : ℕ)
+    (bytes : List ℕ) : Type 0 where
   pub within : k + rows ≤ length changes
   pub limit : first + rows ≤ limit_of t
   pub long : length bytes ≡ rows * size_of t

@@ -39,6 +39,6 @@ pub record IsPaid (size calls_old calls_new : ℕ) (old new : Next) (bytes : ℕ
   pub paid : calls_new * least_write size + old.at ≤ calls_old * least_write size + new.at
 
 -- The calls of the disk since then are few: the bytes pay for all of them but one.
-abbrev pub AreFew : ℕ → ℕ → ℕ → ℕ → Type 0
-AreFew size calls_old calls_new bytes =
+abbrev pub ArePaidByBytes : ℕ → ℕ → ℕ → ℕ → Type 0
+ArePaidByBytes size calls_old calls_new bytes =
     calls_new * least_write size ≤ calls_old * least_write size + (least_write size + bytes)

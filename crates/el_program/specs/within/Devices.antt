@@ -18,12 +18,12 @@ relay_of (command.Serve said) = unwrap_or said.relay []
 relay_of other = []
 
 -- the folder of the index that a command asks for; only `serve` and `audit` ask for one
-abbrev pub index_of : Command → List ℕ
-index_of (command.Serve said) = said.index
-index_of (command.Once blocks network) = []
-index_of (command.CheckChain count) = []
-index_of (command.Audit blocks index network) = index
-index_of (command.ProveCheck said) = []
+abbrev pub folder_of_index : Command → List ℕ
+folder_of_index (command.Serve said) = said.index
+folder_of_index (command.Once blocks network) = []
+folder_of_index (command.CheckChain count) = []
+folder_of_index (command.Audit blocks index network) = index
+folder_of_index (command.ProveCheck said) = []
 
 -- the ports that a command asks for; only `serve` asks for some
 abbrev pub ports_of : Command → Ports

@@ -36,13 +36,13 @@ own_coins script s t index [] = []
 own_coins script s t index (x ∷ xs) = own_coin script s t index x ++ own_coins script s t (index + 1) xs
 
 -- the outputs of the transaction
-abbrev pub outs_of : ListedTx → List ListedOut → List ListedOut
-outs_of t outs = take t.outs (drop t.first_out outs)
+abbrev pub outs_of_tx : ListedTx → List ListedOut → List ListedOut
+outs_of_tx t outs = take t.outs (drop t.first_out outs)
 
 -- the coins of the script that a transaction made, if it is there
 abbrev pub coins_made_by : ℕ → Hash32 → List ListedOut → Option ListedTx → List Coin
 coins_made_by script s outs None = []
-coins_made_by script s outs (Some t) = own_coins script s t 0 (outs_of t outs)
+coins_made_by script s outs (Some t) = own_coins script s t 0 (outs_of_tx t outs)
 
 -- 3. Rows read
 

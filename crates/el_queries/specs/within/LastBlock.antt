@@ -16,8 +16,8 @@ abbrev pub is_at : Hash32 → List Hash32 → ℕ → Bool
 is_at s scripts n = option_map_or (same_hash s) (slice_get scripts n) false
 
 -- the entry is of the script hash
-abbrev pub is_entry_of : Hash32 → Lists → ListedEntry → Bool
-is_entry_of s l e = is_at s l.scripts e.script
+abbrev pub is_entry_of_script : Hash32 → Lists → ListedEntry → Bool
+is_entry_of_script s l e = is_at s l.scripts e.script
 
 -- the link names no entry from that number on
 abbrev pub is_below : ℕ → Option ℕ → Bool

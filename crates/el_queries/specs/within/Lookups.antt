@@ -8,7 +8,7 @@ use Rattle.el_tables.specs.ChainLists.{ListedBlock}
 use Rattle.el_tables.specs.Lists.{Lists, output_number}
 use Rattle.el_tables.specs.Queries.{height_at}
 use Rattle.el_row_formats.specs.declared.out_row.OutRow.{OutRow}
-use Rattle.el_spend.specs.Outputs.{output_at}
+use Rattle.el_spend.specs.Outputs.{output_numbered}
 use Rattle.el_spend.specs.declared.lookup.NamedOutput.{NamedOutput}
 use Rattle.el_position.specs.declared.lookup.NumberedTx.{NumberedTx}
 
@@ -27,12 +27,12 @@ abbrev pub IsInItsBlock : NumberedTx → List ListedBlock → Type 0
 IsInItsBlock x bs = (b : ListedBlock) → slice_get bs x.row.height ≡ Some b → x.number - b.first_tx < b.txs
 
 -- the output that an outpoint names, with its row
-abbrev pub output_of : Outpoint → Lists → Option NamedOutput
-output_of o l = option_and_then (output_at l.outs) (output_number o l.txs)
+abbrev pub output_for_outpoint : Outpoint → Lists → Option NamedOutput
+output_for_outpoint o l = option_and_then (output_numbered l.outs) (output_number o l.txs)
 
 -- the output that has this row, as the coin of the outpoint
-abbrev pub coin_in : Outpoint → Lists → OutRow → Coin
-coin_in o l row = record {
+abbrev pub coin_of_row : Outpoint → Lists → OutRow → Coin
+coin_of_row o l row = record {
   outpoint = o;
   value = row.value;
   script = get_or l.scripts row.script zero_hash;

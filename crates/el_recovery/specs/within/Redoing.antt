@@ -4,7 +4,7 @@ use Rattle.std.specs.List.{AllByRecursion}
 use Rattle.el_outside.specs.Disk.{Image}
 use Rattle.el_rows.specs.Changes.{Changes}
 use Rattle.el_redo.specs.RedoBody.{changes_bytes}
-use Rattle.el_redone.specs.Redone.{Write, Fits, into, record_bytes}
+use Rattle.el_redone.specs.Redone.{Write, WritesFit, into, record_bytes}
 use Rattle.el_pages.specs.declared.layout.Layout.{Layout}
 use Rattle.el_pages.specs.Layouts.{redo_of}
 use Rattle.el_pages.specs.Records.{Spells, write_of, IsWhole}
@@ -16,12 +16,12 @@ pub record HasLeft (l : Layout) (seen : Image) (at end : ℕ) (changes : Changes
   pub is : drop at (seen (redo_of l)) ≡ changes_bytes changes ++ stale
   pub ends_at : end ≡ at + length (changes_bytes changes)
   pub whole : AllByRecursion (IsWhole l) changes
-  pub fits : (f : ℕ) → Fits (into f (map (write_of l) changes)) (length (seen f))
+  pub fits : (f : ℕ) → WritesFit (into f (map (write_of l) changes)) (length (seen f))
 
 -- The redo file has an open gate and behind it a whole body of that length, whose writes fit.
-pub record HasRecord (l : Layout) (seen : Image) (len : ℕ) (body stale : List ℕ)
+pub record HasRedoRecord (l : Layout) (seen : Image) (len : ℕ) (body stale : List ℕ)
     (ws : List Write) : Type 0 where
   pub long : length body ≡ len
   pub is : seen (redo_of l) ≡ 1 ∷ (record_bytes body ++ stale)
   pub spelled : Spells l body ws
-  pub fits : (f : ℕ) → Fits (into f ws) (length (seen f))
+  pub fits : (f : ℕ) → WritesFit (into f ws) (length (seen f))

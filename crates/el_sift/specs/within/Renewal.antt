@@ -23,7 +23,7 @@ use Rattle.el_mempool.specs.Moving.{step_differs}
 use Rattle.el_kept.specs.declared.table.Table.{Table}
 use Rattle.el_kept.specs.declared.retaking.Takes.{Takes}
 use Rattle.el_kept.specs.Tables.{has, same_froms, retaken}
-use Rattle.el_kept.specs.Named.{output_at}
+use Rattle.el_kept.specs.Named.{kept_output}
 
 -- the input with what it now takes
 abbrev pub source_with : Source → Held → Source
@@ -51,7 +51,7 @@ each_free kept (i ∷ is) = not (is_taken i.from kept) && (not (any_takes i.from
 
 -- what the outpoint names of a kept transaction that isn't gone, by a look-up, where any may be named
 abbrev pub output_left : Table → List Hash32 → Bool → Outpoint → Option Held
-output_left t gone any o = if any && not (has gone o.txid) then output_at t o else None
+output_left t gone any o = if any && not (has gone o.txid) then kept_output t o else None
 
 -- a look-up tells which outputs of kept ones the inputs take; none of these is a coin of the chain
 abbrev pub AreSeen : (Outpoint → Option Held) → Chain → List Tx → List Source → Type 0
@@ -87,7 +87,7 @@ pub record IsLeft (all kept : List Tx) (gone : List Hash32) (o : Outpoint) : Typ
 
 -- A sift comes to the transaction, whose entry this is in a set over the chain before, after those that it
 -- kept; with these txids are those that it did not keep.
-pub record IsNext (before : Chain) (all kept : List Tx) (gone : List Hash32) (t : Tx)
+pub record SiftsNext (before : Chain) (all kept : List Tx) (gone : List Hash32) (t : Tx)
     (k : KeptTx) : Type 0 where
   pub is : k ≡ kept_tx before all t
   pub named : AllByRecursion (λ (i : TxIn). is_some (named before all i.from) ≡ true) t.inputs

@@ -22,8 +22,8 @@ abbrev pub named_by : ℕ → ℕ → Lists → Option ℕ
 named_by tx number l = output_number (outpoint_at tx number l) (take tx l.txs)
 
 -- what a script's balance has of the output
-abbrev pub held_by : ListedOut → ℕ
-held_by x = if is_unspent x.state then x.value else 0
+abbrev pub value_if_unspent : ListedOut → ℕ
+value_if_unspent x = if is_unspent x.state then x.value else 0
 
 -- a row of a script with a balance that is higher by a value (in satoshi), and at most 2^64 - 1
 abbrev pub raised : ℕ → ScriptRow → ScriptRow

@@ -19,7 +19,7 @@ use Rattle.el_chain.specs.Records.{IsNode}
 use Rattle.el_chain.specs.Touches.{AreTouched}
 use Rattle.el_mempool.specs.declared.fault.PoolFault.{PoolFault}
 use Rattle.el_mempool.specs.declared.fault.PoolFault.TheVariants as unkept
-use Rattle.el_mempool.specs.Standing.{AreChanged, PoolState, StandsFor}
+use Rattle.el_mempool.specs.Standing.{AreChanged, PoolState, KeptStandFor}
 use Rattle.el_model.specs.LedgerCalls.{KeepsBeside, Moved}
 use Rattle.el_model.specs.Queries.{height_of, tip_of}
 use Rattle.el_lines.specs.NodeAnswers.{move_refused}
@@ -32,7 +32,7 @@ use Rattle.el_side.specs.Side.{Side, Looks, MayTellMove}
 use Rattle.el_model.specs.declared.fault.QueryFault.{QueryFault}
 use Rattle.el_model.specs.declared.fault.QueryFault.TheVariants as fault
 use Rattle.el_sync.specs.declared.making.Made.{Made}
-use Rattle.el_sync.specs.Steps.{named}
+use Rattle.el_sync.specs.Steps.{previous_hash}
 
 -- what the node is answered where a move is refused for one of its blocks, or the block files failed; the
 -- fault is no other
@@ -88,7 +88,7 @@ pub record MoveKeeps {G A : Type 0} (of : Ghosts G A) (was now : Beneath G A) (r
   pub live : of.ledger.is_live now.ledger
   pub left : made.left ≡ (if made.moved then left_of rest else [])
   pub nodes : AllByRecursion IsNode made.left
-  pub linked : AreLinked (named (of.ledger.tip now.ledger)) made.left
+  pub linked : AreLinked (previous_hash (of.ledger.tip now.ledger)) made.left
   pub keeps : of.files.tells → AllGrow (of.files.bytes was.files) (of.files.bytes now.files)
   pub archive_rose : RoseBy (of.files.faults was.files) (of.files.faults now.files) 0
       ⊎ ((made.moved ≡ false) × RoseBy (of.files.faults was.files) (of.files.faults now.files) 1)
@@ -110,7 +110,7 @@ pub record StandsAfter (pool : PoolState) (side : Side) (changed : List Hash32) 
     : Type 0 where
   pub kept : List Tx
   pub done : does (record side { kept = kept })
-  pub stood : StandsFor pool.entries side.chain kept
+  pub stood : KeptStandFor pool.entries side.chain kept
   pub changes : AreChanged side.chain side.kept side.chain kept changed
 
 -- the refusal tells the txid of the transaction itself

@@ -10,47 +10,47 @@ abbrev pub no_list : SizedRows
 no_list = record { size = 0; rows = [] }
 
 -- the list that is kept of a table
-abbrev pub list_of : List SizedRows → Table → SizedRows
-list_of kept t = get_or kept (index_of t) no_list
+abbrev pub sized_rows : List SizedRows → Table → SizedRows
+sized_rows kept t = get_or kept (index_of t) no_list
 
 -- the tables that the lists hold
-abbrev pub kept_of : List SizedRows → Tables
-kept_of kept t = (list_of kept t).rows
+abbrev pub tables_held : List SizedRows → Tables
+tables_held kept t = (sized_rows kept t).rows
 
 -- of the rows that are kept of each table, those that are shown
 abbrev pub shown_rows : List SizedRows → List ℕ → Tables
-shown_rows kept counts t = take (count_at counts t) (kept_of kept t)
+shown_rows kept counts t = take (count_at counts t) (tables_held kept t)
 
 -- each list has its table's size
 abbrev pub AreSized : List SizedRows → Type 0
-AreSized kept = (t : Table) → (list_of kept t).size ≡ size_of t
+AreSized kept = (t : Table) → (sized_rows kept t).size ≡ size_of t
 
 -- there are as many rows as these counts say
-abbrev pub HasRoom : List SizedRows → List ℕ → Type 0
-HasRoom kept counts = (t : Table) → count_at counts t ≤ length (kept_of kept t)
+abbrev pub HasEnoughRows : List SizedRows → List ℕ → Type 0
+HasEnoughRows kept counts = (t : Table) → count_at counts t ≤ length (tables_held kept t)
 
 -- what is kept beside the counts
 pub record AreKept (kept : List SizedRows) (counts : List ℕ) : Type 0 where
   pub sized : AreSized kept
-  pub room : HasRoom kept counts
+  pub room : HasEnoughRows kept counts
   pub limited : (t : Table) → count_at counts t ≤ limit_of t
 
 -- each table has grown, and its list has the same size
 pub record AllGrown (old new : List SizedRows) : Type 0 where
-  pub sizes : (t : Table) → (list_of new t).size ≡ (list_of old t).size
-  pub rows : (t : Table) → HasGrown (list_of old t).size (kept_of old t) (kept_of new t)
+  pub sizes : (t : Table) → (sized_rows new t).size ≡ (sized_rows old t).size
+  pub rows : (t : Table) → HasGrown (sized_rows old t).size (tables_held old t) (tables_held new t)
 
 -- the changed rows are written over, and each list has the same size
 pub record AreWritten (old new : List SizedRows) (changes : Changes) : Type 0 where
-  pub sizes : (t : Table) → (list_of new t).size ≡ (list_of old t).size
-  pub long : (t : Table) → length (kept_of new t) ≡ length (kept_of old t)
-  pub each : (t : Table) (i : ℕ) → i < length (kept_of old t)
-      → get_or (kept_of new t) i [] ≡ unwrap_or (changed_at changes t i) (get_or (kept_of old t) i [])
+  pub sizes : (t : Table) → (sized_rows new t).size ≡ (sized_rows old t).size
+  pub long : (t : Table) → length (tables_held new t) ≡ length (tables_held old t)
+  pub each : (t : Table) (i : ℕ) → i < length (tables_held old t)
+      → get_or (tables_held new t) i [] ≡ unwrap_or (changed_at changes t i) (get_or (tables_held old t) i [])
 
 -- the first k of the changed rows are written over, the others still stand as they were
 pub record AreWriting (old new : List SizedRows) (changes : Changes) (k : ℕ) : Type 0 where
   pub tables : length new ≡ length old
-  pub sizes : (t : Table) → (list_of new t).size ≡ (list_of old t).size
-  pub long : (t : Table) → length (kept_of new t) ≡ length (kept_of old t)
-  pub each : (t : Table) (i : ℕ) → i < length (kept_of old t) → changed_at (drop k changes) t i ≡ None
-      → get_or (kept_of new t) i [] ≡ unwrap_or (changed_at changes t i) (get_or (kept_of old t) i [])
+  pub sizes : (t : Table) → (sized_rows new t).size ≡ (sized_rows old t).size
+  pub long : (t : Table) → length (tables_held new t) ≡ length (tables_held old t)
+  pub each : (t : Table) (i : ℕ) → i < length (tables_held old t) → changed_at (drop k changes) t i ≡ None
+      → get_or (tables_held new t) i [] ≡ unwrap_or (changed_at changes t i) (get_or (tables_held old t) i [])

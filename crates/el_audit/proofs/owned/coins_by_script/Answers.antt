@@ -1,7 +1,7 @@
 use Rattle.std.proofs.Common.{rules, ◌≡◌, ◌∙◌, [], Some, ap, sym}
 use Rattle.std.specs.List.{flat_map}
 use Rattle.std.specs.Prelude.{option_to_list}
-use Rattle.el_audit.specs.within.Lists.{is_among, list_of, grown}
+use Rattle.el_audit.specs.within.Lists.{is_in_set, list_of, grown}
 use Rattle.el_audit.specs.within.OwnCoins.{coins_with}
 use Rattle.el_audit.proofs.OwnCoins.{standing_values, with_of_own}
 use Rattle.el_audit.proofs.Walks.{grown_none, kept_more}
@@ -20,4 +20,4 @@ pub returns : goal.returns
 returns c = λ coins h s named.
     let none : c.loop-coin.coin-iterator ≡ [] = search rules in
     let all = rw none at (c.loop-coin.invariant s named) in
-    sym (grown_none (list_of c.loop-coin.lists s)) ∙ all ∙ ap (λ l. Some (coins_with s l)) h.are ∙ ap (λ l. Some l) (with_of_own (is_among c.args.names.now) s coins named)
+    sym (grown_none (list_of c.loop-coin.lists s)) ∙ all ∙ ap (λ l. Some (coins_with s l)) h.are ∙ ap (λ l. Some l) (with_of_own (is_in_set c.args.names.now) s coins named)

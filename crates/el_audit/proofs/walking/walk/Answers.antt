@@ -2,7 +2,7 @@ use Rattle.std.proofs.Common.{rules, ◌∙◌, [], ap, sym, arith, refl}
 use Rattle.std.proofs.lemmas.List.{drop_all}
 use Rattle.el_chain.specs.Coins.{coins_after_all}
 use Rattle.el_chain.specs.History.{history}
-use Rattle.el_audit.specs.within.Lists.{is_among, list_of, grown}
+use Rattle.el_audit.specs.within.Lists.{is_in_set, list_of, grown}
 use Rattle.el_audit.proofs.Bounds.{HasFitting, good_fits, good_few}
 use Rattle.el_audit.proofs.OwnCoins.{own_none}
 use Rattle.el_audit.proofs.Walks.{chain_step, coins_step, all_here, all_after, grown_none}
@@ -11,7 +11,7 @@ use Rattle.el_audit.proofs.walking.walk.Goals as goal
 pub loop-height-init : goal.loop-height-init
 loop-height-init c = record {
   fit = good_fits c.args.chain.now c.requires;
-  stands = ([], own_none _ (is_among c.args.names.now) (search rules), (λ s named. ap (λ l. grown l (history c.args.chain.now s.0)) (c.in_ok-lists.ensures s named)), refl);
+  stands = ([], own_none _ (is_in_set c.args.names.now) (search rules), (λ s named. ap (λ l. grown l (history c.args.chain.now s.0)) (c.in_ok-lists.ensures s named)), refl);
 }
 
 pub overflow_cast-height : goal.overflow_cast-height

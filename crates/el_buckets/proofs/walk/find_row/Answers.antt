@@ -1,6 +1,6 @@
 use Rattle.std.proofs.Common.{◌≡◌, ◌<◌, ◌≤◌, ◌+◌, ◌^◌, ℕ, [], get_or, Option, Some, None, take, ap, sym, ◌∙◌, refl, subst, arith, count_by, eqb-true, ◌==◌}
 use Rattle.el_row_formats.specs.Tables.{Tables}
-use Rattle.el_rows.specs.Transaction.{tables_in, reads_in}
+use Rattle.el_rows.specs.Transaction.{with_edits, reads_in}
 use Rattle.el_base.specs.declared.hash.Hash32.{Hash32}
 use Rattle.el_chain.specs.Chains.{zero_hash}
 use Rattle.el_chain.specs.Headers.{same_hash}
@@ -8,7 +8,7 @@ use Rattle.el_row_formats.specs.RowBytes.{number_limit, link_number}
 use Rattle.el_rows.proofs.TransactionLemmas.{begun, more}
 use Rattle.el_tables.specs.Tables.{bucket_in, greatest}
 use Rattle.el_schema.specs.Rows.{Hold}
-use Rattle.el_buckets.specs.Buckets.{rows_of, hashes_of, count_of, share_bucket}
+use Rattle.el_buckets.specs.Buckets.{rows_table, hashes_of, count_of, share_bucket}
 use Rattle.el_buckets.proofs.Walks.{IsWalk, end_of, walk_begins, walk_on, walk_found, rows_within, rows_on, in_own_bucket, greatest_passes, end_below, number_below}
 use Rattle.el_buckets.proofs.walk.find_row.Goals as goal
 
@@ -63,11 +63,11 @@ returns-then-eq-clause-rows g c counts bs l told hold some =
 pub returns-then-eq-clause-row : goal.returns-then-eq-clause-row
 returns-then-eq-clause-row g c told m is =
     let k = c.args.buckets in
-    let shown = tables_in {G = g.R.Rows} c.args.t.now in
+    let shown = with_edits {G = g.R.Rows} c.args.t.now in
     let both : Some c.in-Some.n ≡ Some m = is in
     let same : c.in-Some.n ≡ m = cc in
-    c.in_ok-found.ensures.row told ∙ ap (λ (T : Tables). get_or (T (rows_of k)) c.in-Some.n []) c.loop-link.invariant.read.tables
-    ∙ ap (λ (i : ℕ). get_or (shown (rows_of k)) i []) same
+    c.in_ok-found.ensures.row told ∙ ap (λ (T : Tables). get_or (T (rows_table k)) c.in-Some.n []) c.loop-link.invariant.read.tables
+    ∙ ap (λ (i : ℕ). get_or (shown (rows_table k)) i []) same
 
 pub returns-then-eq-clause-none : goal.returns-then-eq-clause-none
 returns-then-eq-clause-none g c empty = sym c.in-Some.is ∙ c.loop-link.invariant.none empty

@@ -2,7 +2,7 @@ use Rattle.std.proofs.Common.{List, refl, sym, ◌∙◌, subst, arith}
 use Rattle.std.proofs.lemmas.Result.{err_from_is_err_and}
 use Rattle.el_chain.specs.declared.node.Node.{Node}
 use Rattle.el_side.specs.Beneath.{beneath, ghosts}
-use Rattle.el_sync.specs.Steps.{named}
+use Rattle.el_sync.specs.Steps.{previous_hash}
 use Rattle.el_check_chain.specs.within.Ways.{AreUnderWay}
 use Rattle.el_check_chain.proofs.WayLemmas.{empty_left, some_left, linked_to, counts_on, none_made, one_more}
 use Rattle.el_check_chain.proofs.leading.move_on.Goals as goal
@@ -20,7 +20,7 @@ loop-round-init g c = record {
 
 pub move_next-requires-clause-linked : goal.move_next-requires-clause-linked
 move_next-requires-clause-linked g c = λ κs out.
-    (named (g.G.Ledger.tip c.loop-round.ledger), c.loop-round.invariant.linked)
+    (previous_hash (g.G.Ledger.tip c.loop-round.ledger), c.loop-round.invariant.linked)
 
 pub move_next-requires-clause-fits : goal.move_next-requires-clause-fits
 move_next-requires-clause-fits g c = λ κs out chain stands.

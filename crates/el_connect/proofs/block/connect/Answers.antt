@@ -8,7 +8,7 @@ use Rattle.el_chain.specs.declared.placed.Placed.{Placed}
 use Rattle.el_chain.specs.RowCounts.{row_limit}
 use Rattle.el_chain.proofs.CoinSteps.{err_passed}
 use Rattle.el_row_formats.specs.Tables as held
-use Rattle.el_rows.specs.Transaction.{tables_in}
+use Rattle.el_rows.specs.Transaction.{with_edits}
 use Rattle.el_row_formats.specs.declared.table.Table.TheVariants as table
 use Rattle.el_tables.specs.ChainLists.{lists, listed_blocks}
 use Rattle.el_tables.specs.Tables.{in_both}
@@ -42,13 +42,13 @@ row_of-row-requires-clause-header g c =
 pub returns-in_err-sum-clause-refused : goal.returns-in_err-sum-clause-refused
 returns-in_err-sum-clause-refused g c chain block told stand encoded is names =
     let e = c.in_err-sum.field-0.0 in
-    let shown = tables_in {G = g.R.Rows} c.args.t.now in
+    let shown = with_edits {G = g.R.Rows} c.args.t.now in
     let both = holds shown chain stand in
     let some = stand.1.some in
     let placed : Placed = record { block = block; place = c.args.place } in
     let sum = sum_before shown c.in_ok-before.before c.in_ok-before.ensures.none (λ counts bs b l h. c.in_ok-before.ensures.sum counts bs b l told h) stand.0 chain both.1 in
     let hold = subst (λ (T : held.Tables). HoldChain stand.0 T chain) (sym c.last_sum.ensures.read.tables) both.1 in
-    let ready = begun stand.0 chain (tables_in {G = g.R.Rows} c.last_sum.new.t) c.in_ok-before.before some hold sum in
+    let ready = begun stand.0 chain (with_edits {G = g.R.Rows} c.last_sum.new.t) c.in_ok-before.before some hold sum in
     let most = subst (λ (k : ℕ). k ≤ max_money) (sym sum) (sum_of_good chain both.0) in
     let tall = c.count-height.ensures.count ∙ height_is stand.0 shown chain both.1 in
     let txs = c.as_slice.ensures ∙ ap (λ (p : Prepared). p.txs) is in
@@ -58,14 +58,14 @@ returns-in_err-sum-clause-refused g c chain block told stand encoded is names =
 pub returns-in_err-append_block-clause-refused : goal.returns-in_err-append_block-clause-refused
 returns-in_err-append_block-clause-refused g c chain block told stand encoded is names =
     let e = c.in_err-append_block.field-0.0 in
-    let shown = tables_in {G = g.R.Rows} c.args.t.now in
-    let rows = tables_in {G = g.R.Rows} c.connect_txs.new.t in
+    let shown = with_edits {G = g.R.Rows} c.args.t.now in
+    let rows = with_edits {G = g.R.Rows} c.connect_txs.new.t in
     let both = holds shown chain stand in
     let some = stand.1.some in
     let placed : Placed = record { block = block; place = c.args.place } in
     let sum = sum_before shown c.in_ok-before.before c.in_ok-before.ensures.none (λ counts bs b l h. c.in_ok-before.ensures.sum counts bs b l told h) stand.0 chain both.1 in
     let hold = subst (λ (T : held.Tables). HoldChain stand.0 T chain) (sym c.last_sum.ensures.read.tables) both.1 in
-    let ready = begun stand.0 chain (tables_in {G = g.R.Rows} c.last_sum.new.t) c.in_ok-before.before some hold sum in
+    let ready = begun stand.0 chain (with_edits {G = g.R.Rows} c.last_sum.new.t) c.in_ok-before.before some hold sum in
     let most = subst (λ (k : ℕ). k ≤ max_money) (sym sum) (sum_of_good chain both.0) in
     let tall = c.count-height.ensures.count ∙ height_is stand.0 shown chain both.1 in
     let txs = c.as_slice.ensures ∙ ap (λ (p : Prepared). p.txs) is in
@@ -80,19 +80,19 @@ returns-in_err-append_block-clause-refused g c chain block told stand encoded is
 
 pub returns-clause-connected : goal.returns-clause-connected
 returns-clause-connected g c heads chain block told stand encoded is names =
-    let shown = tables_in {G = g.R.Rows} c.args.t.now in
+    let shown = with_edits {G = g.R.Rows} c.args.t.now in
     let both = held_with heads shown chain stand in
     let some = stand.some in
     let placed : Placed = record { block = block; place = c.args.place } in
     let sum = sum_before shown c.in_ok-before.before c.in_ok-before.ensures.none (λ counts bs b l h. c.in_ok-before.ensures.sum counts bs b l told h) heads chain both.1 in
     let hold = subst (λ (T : held.Tables). HoldChain heads T chain) (sym c.last_sum.ensures.read.tables) both.1 in
-    let ready = begun heads chain (tables_in {G = g.R.Rows} c.last_sum.new.t) c.in_ok-before.before some hold sum in
+    let ready = begun heads chain (with_edits {G = g.R.Rows} c.last_sum.new.t) c.in_ok-before.before some hold sum in
     let most = subst (λ (k : ℕ). k ≤ max_money) (sym sum) (sum_of_good chain both.0) in
     let tall = c.count-height.ensures.count ∙ height_is heads shown chain both.1 in
     let txs = c.as_slice.ensures ∙ ap (λ (p : Prepared). p.txs) is in
     let led = (c.in_ok-sum.ensures.connected (in_both heads) (listed_blocks chain) (lists chain) told ready most (between_of_good chain both.0)).0 in
     let first = c.count-first_tx.ensures.count ∙ count_txs (in_both heads) (listed_blocks chain) (lists chain) shown both.1 in
     let many = c.len-txs.ensures ∙ ap (λ (p : Prepared). length p.txs) is in
-    block_put chain placed c.count-height.result c.as_slice.result.now both.0 tall txs heads (tables_in {G = g.R.Rows} c.connect_txs.new.t) (tables_in {G = g.R.Rows} c.append_block.new.t) c.in_ok-sum.sum
+    block_put chain placed c.count-height.result c.as_slice.result.now both.0 tall txs heads (with_edits {G = g.R.Rows} c.connect_txs.new.t) (with_edits {G = g.R.Rows} c.append_block.new.t) c.in_ok-sum.sum
     c.count-first_tx.result c.len-txs.result c.args.b.now.header some encoded names led (ap (λ (p : Prepared). p.header) is) first many
     (λ l x held row. c.in_ok-append_block.ensures.appended (in_both heads) (listed_blocks chain) l x held (c.row_of-row.ensures.is ∙ row))

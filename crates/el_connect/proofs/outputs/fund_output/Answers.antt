@@ -4,7 +4,7 @@ use Rattle.el_chain.proofs.CoinSteps.{err_passed}
 use Rattle.el_chain.specs.declared.fault.ConnectFault.{ConnectFault}
 use Rattle.el_row_formats.specs.Tables as held
 use Rattle.el_row_formats.specs.declared.table.Table.TheVariants as table
-use Rattle.el_rows.specs.Transaction.{tables_in}
+use Rattle.el_rows.specs.Transaction.{with_edits}
 use Rattle.el_tables.specs.Lists.{add_entry, add_output, unspent_sum}
 use Rattle.el_tables.proofs.Sums.{balances_fit}
 use Rattle.el_schema.specs.Rows.{Hold}
@@ -16,7 +16,7 @@ use Rattle.el_connect.proofs.outputs.fund_output.Goals as goal
 pub returns-in_err-script-clause-refused : goal.returns-in_err-script-clause-refused
 returns-in_err-script-clause-refused g c counts bs l n told reached room few =
     let e = c.in_err-script.field-0.0 in
-    let rows = tables_in {G = g.R.Rows} c.args.t.now in
+    let rows = with_edits {G = g.R.Rows} c.args.t.now in
     err_passed c.from_residual.result _ e (err_from_is_err_and c.from_residual.result c.from_residual.ensures.1)
     (touch_refused c.args.output.now.1 c.args.maker.now.number (length (rows table.Scripts)) (length (rows table.Entries)) l e few
     (λ t rows is. c.in_err-script.ensures.full counts bs l told reached.hold reached.fits reached.script_heads t rows (ap (λ (f : ConnectFault). Err f) is))
@@ -40,6 +40,6 @@ returns-clause-funded g c counts bs l told reached is fit =
     let most = funded_at_most e m.number c.args.index o.0 c.in_ok-script.script in
     let fits : unspent_sum (add_output m.number c.args.index o.0 c.in_ok-script.script e).outs < 2 ^ 64 = omega arith in
     let added = c.in_ok-add_out.ensures.lists counts bs e told before reached.tx_heads (balances_fit _ fits) in
-    let hold = subst (λ (j : ℕ). Hold counts bs (add_output m.number c.args.index o.0 j e) (tables_in {G = g.R.Rows} c.add_out.new.t)) number added in
-    output_reached counts bs l (tables_in {G = g.R.Rows} c.args.t.now) (tables_in {G = g.R.Rows} c.add_out.new.t) c.args.sum m.number c.args.index c.in_ok-gone.gone c.saturating_add.result o reached fit gone
+    let hold = subst (λ (j : ℕ). Hold counts bs (add_output m.number c.args.index o.0 j e) (with_edits {G = g.R.Rows} c.add_out.new.t)) number added in
+    output_reached counts bs l (with_edits {G = g.R.Rows} c.args.t.now) (with_edits {G = g.R.Rows} c.add_out.new.t) c.args.sum m.number c.args.index c.in_ok-gone.gone c.saturating_add.result o reached fit gone
     (c.saturating_add.ensures ∙ ap (λ (s : ℕ). min (s + o.0) 18446744073709551615) c.saturating_sub.ensures) hold

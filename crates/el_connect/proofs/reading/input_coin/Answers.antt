@@ -1,6 +1,6 @@
 use Rattle.std.proofs.Common.{◌≡◌, ◌≤◌, Some, option_map, slice_get, arith, ap, length, sym}
 use Rattle.std.proofs.lemmas.List.{get_or_past}
-use Rattle.el_rows.specs.Transaction.{tables_in}
+use Rattle.el_rows.specs.Transaction.{with_edits}
 use Rattle.el_row_formats.specs.declared.in_row.InRow.{InRow}
 use Rattle.el_tables.specs.Tables.{tables_of}
 use Rattle.el_schema.specs.Rows.{in_fields}
@@ -11,7 +11,7 @@ use Rattle.el_schema.proofs.Held.{count_ins}
 
 pub returns-then-n-count-clause-coin : goal.returns-then-n-count-clause-coin
 returns-then-n-count-clause-coin g c counts bs l told hold =
-    let many = count_ins counts bs l (tables_in {G = g.R.Rows} c.args.t.now) hold in
+    let many = count_ins counts bs l (with_edits {G = g.R.Rows} c.args.t.now) hold in
     let le : length l.ins ≤ c.args.n = omega (arith, many, c.count.ensures.count, c.if-n-count.true) in
     sym (get_or_past l.ins c.args.n 0 le)
 

@@ -3,7 +3,7 @@ use Rattle.std.proofs.lemmas.List.{length-map}
 use Rattle.el_row_formats.specs.RowBytes.{block_row_bytes}
 use Rattle.el_row_formats.specs.declared.block_row.BlockRow.{BlockRow}
 use Rattle.el_row_formats.specs.declared.table.Table.TheVariants as table
-use Rattle.el_rows.specs.Transaction.{tables_in}
+use Rattle.el_rows.specs.Transaction.{with_edits}
 use Rattle.el_tables.specs.ChainLists.{ListedBlock}
 use Rattle.el_tables.specs.Tables.{tables_of}
 use Rattle.el_schema.specs.Rows.{block_fields}
@@ -13,7 +13,7 @@ use Rattle.el_connect.proofs.reading.last_sum.Goals as goal
 
 pub returns-clause-sum : goal.returns-clause-sum
 returns-clause-sum g c counts bs b l told hold =
-    let shown = tables_in {G = g.R.Rows} c.args.t.now in
+    let shown = with_edits {G = g.R.Rows} c.args.t.now in
     let n = c.count-count.result - 1 in
     let many : length (shown table.Blocks) ≡ length (bs ++ b ∷ []) =
     ap length (hold.each table.Blocks) ∙ length-map (bs ++ b ∷ []) (λ (x : ListedBlock). block_row_bytes (block_fields x)) in

@@ -1,6 +1,6 @@
 use Rattle.std.proofs.Common.{◌≡◌, ◌≤◌, Some, option_map, slice_get, arith, ap, length, sym, ◌∙◌}
 use Rattle.std.proofs.lemmas.List.{get_or_past}
-use Rattle.el_rows.specs.Transaction.{tables_in}
+use Rattle.el_rows.specs.Transaction.{with_edits}
 use Rattle.el_tables.specs.Edits.{no_out}
 use Rattle.el_tables.specs.Lists.{ListedOut}
 use Rattle.el_tables.proofs.OutEdits.{script_is}
@@ -14,7 +14,7 @@ use Rattle.el_schema.proofs.Held.{count_outs}
 
 pub returns-then-k-count-clause-script : goal.returns-then-k-count-clause-script
 returns-then-k-count-clause-script g c counts bs l told hold =
-    let many = count_outs counts bs l (tables_in {G = g.R.Rows} c.args.t.now) hold in
+    let many = count_outs counts bs l (with_edits {G = g.R.Rows} c.args.t.now) hold in
     let le : length l.outs ≤ c.args.k = omega (arith, many, c.count.ensures.count, c.if-k-count.true) in
     sym (script_is c.args.k l.outs ∙ ap (λ (x : ListedOut). x.script) (get_or_past l.outs c.args.k no_out le))
 

@@ -2,7 +2,7 @@ use Rattle.std.proofs.Common.{◌<◌, ◌+◌, ◌≤◌, arith, length}
 use Rattle.std.proofs.lemmas.Result.{err_from_is_err_and}
 use Rattle.el_chain.proofs.CoinSteps.{err_passed}
 use Rattle.el_chain.specs.RowCounts.{row_limit}
-use Rattle.el_rows.specs.Transaction.{tables_in}
+use Rattle.el_rows.specs.Transaction.{with_edits}
 use Rattle.el_schema.proofs.Held.{count_txs, count_outs, count_ins}
 use Rattle.el_connect.proofs.FullLemmas.{full_blocks, full_txs, full_outs, full_ins}
 use Rattle.el_connect.proofs.room.check_counted.Goals as goal
@@ -10,7 +10,7 @@ use Rattle.el_connect.proofs.room.check_counted.Goals as goal
 pub returns-in_err-check_table-clause-full : goal.returns-in_err-check_table-clause-full
 returns-in_err-check_table-clause-full g c counts bs l after hold txs outs ins =
     let e = c.in_err-check_table.field-0.0 in
-    let rows = tables_in {G = g.R.Rows} c.args.t.now in
+    let rows = with_edits {G = g.R.Rows} c.args.t.now in
     let one = count_txs counts bs l rows hold in
     let two = count_outs counts bs l rows hold in
     let three = count_ins counts bs l rows hold in
@@ -20,7 +20,7 @@ returns-in_err-check_table-clause-full g c counts bs l after hold txs outs ins =
 pub returns-in_err-check_table-2-clause-full : goal.returns-in_err-check_table-2-clause-full
 returns-in_err-check_table-2-clause-full g c counts bs l after hold txs outs ins =
     let e = c.in_err-check_table-2.field-0.0 in
-    let rows = tables_in {G = g.R.Rows} c.args.t.now in
+    let rows = with_edits {G = g.R.Rows} c.args.t.now in
     let one = count_txs counts bs l rows hold in
     let two = count_outs counts bs l rows hold in
     let three = count_ins counts bs l rows hold in
@@ -31,7 +31,7 @@ returns-in_err-check_table-2-clause-full g c counts bs l after hold txs outs ins
 pub returns-in_err-check_table-3-clause-full : goal.returns-in_err-check_table-3-clause-full
 returns-in_err-check_table-3-clause-full g c counts bs l after hold txs outs ins =
     let e = c.in_err-check_table-3.field-0.0 in
-    let rows = tables_in {G = g.R.Rows} c.args.t.now in
+    let rows = with_edits {G = g.R.Rows} c.args.t.now in
     let one = count_txs counts bs l rows hold in
     let two = count_outs counts bs l rows hold in
     let three = count_ins counts bs l rows hold in
@@ -42,7 +42,7 @@ returns-in_err-check_table-3-clause-full g c counts bs l after hold txs outs ins
 pub returns-in_err-check_table-4-clause-full : goal.returns-in_err-check_table-4-clause-full
 returns-in_err-check_table-4-clause-full g c counts bs l after hold txs outs ins =
     let e = c.in_err-check_table-4.field-0.0 in
-    let rows = tables_in {G = g.R.Rows} c.args.t.now in
+    let rows = with_edits {G = g.R.Rows} c.args.t.now in
     let one = count_txs counts bs l rows hold in
     let two = count_outs counts bs l rows hold in
     let three = count_ins counts bs l rows hold in
@@ -53,15 +53,15 @@ returns-in_err-check_table-4-clause-full g c counts bs l after hold txs outs ins
 
 pub returns-clause-tx : goal.returns-clause-tx
 returns-clause-tx g c counts bs l hold =
-    let many = count_txs counts bs l (tables_in {G = g.R.Rows} c.args.t.now) hold in
+    let many = count_txs counts bs l (with_edits {G = g.R.Rows} c.args.t.now) hold in
     omega (arith, many, c.count.ensures.count, c.in_ok-check_table-2.ensures)
 
 pub returns-clause-outs : goal.returns-clause-outs
 returns-clause-outs g c counts bs l hold =
-    let many = count_outs counts bs l (tables_in {G = g.R.Rows} c.args.t.now) hold in
+    let many = count_outs counts bs l (with_edits {G = g.R.Rows} c.args.t.now) hold in
     omega (arith, many, c.count-2.ensures.count, c.in_ok-check_table-3.ensures)
 
 pub returns-clause-ins : goal.returns-clause-ins
 returns-clause-ins g c counts bs l hold =
-    let many = count_ins counts bs l (tables_in {G = g.R.Rows} c.args.t.now) hold in
+    let many = count_ins counts bs l (with_edits {G = g.R.Rows} c.args.t.now) hold in
     omega (arith, many, c.count-3.ensures.count, c.in_ok-check_table-4.ensures)

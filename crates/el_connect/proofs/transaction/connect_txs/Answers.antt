@@ -2,7 +2,7 @@ use Rattle.std.proofs.Common.{◌∙◌}
 use Rattle.std.proofs.lemmas.Result.{err_from_is_err_and}
 use Rattle.el_chain.proofs.CoinSteps.{err_passed}
 use Rattle.el_rows.proofs.TransactionLemmas.{more_edits}
-use Rattle.el_rows.specs.Transaction.{tables_in}
+use Rattle.el_rows.specs.Transaction.{with_edits}
 use Rattle.el_connect.proofs.TxLemmas.{small_here, small_after, txs_more, txs_refused, txs_done}
 use Rattle.el_connect.proofs.transaction.connect_txs.Goals as goal
 
@@ -13,13 +13,13 @@ pub returns-in_err-after-clause-refused : goal.returns-in_err-after-clause-refus
 returns-in_err-after-clause-refused g c counts bs l told reached most between =
     let e = c.in_err-after.field-0.0 in
     err_passed c.from_residual.result _ e (err_from_is_err_and c.from_residual.result c.from_residual.ensures.1)
-    (txs_refused counts bs l c.args.height c.args.txs.now (tables_in {G = g.R.Rows} c.loop-index.t) c.loop-index.after c.loop-index.index c.index-txs-index.result e c.loop-index-test.true c.index-txs-index.is
+    (txs_refused counts bs l c.args.height c.args.txs.now (with_edits {G = g.R.Rows} c.loop-index.t) c.loop-index.after c.loop-index.index c.index-txs-index.result e c.loop-index-test.true c.index-txs-index.is
     (c.loop-index.invariant.led counts bs l told reached most between) (λ now at within here. c.in_err-after.ensures.refused counts bs now told at within here))
 
 pub loop-index-preserved : goal.loop-index-preserved
 loop-index-preserved g c = record {
   led = λ counts bs before told reached most between.
-      txs_more counts bs before c.args.height c.args.txs.now (tables_in {G = g.R.Rows} c.loop-index.t) (tables_in {G = g.R.Rows} c.connect_tx.new.t) c.loop-index.after c.in_ok-after.after c.loop-index.index
+      txs_more counts bs before c.args.height c.args.txs.now (with_edits {G = g.R.Rows} c.loop-index.t) (with_edits {G = g.R.Rows} c.connect_tx.new.t) c.loop-index.after c.in_ok-after.after c.loop-index.index
       c.index-txs-index.result c.loop-index-test.true c.index-txs-index.is (c.loop-index.invariant.led counts bs before told reached most between)
       (λ now at within here. c.in_ok-after.ensures.connected counts bs now told at within here);
   small = small_after c.args.txs.now c.loop-index.index c.index-txs-index.result c.loop-index-test.true c.index-txs-index.is c.loop-index.invariant.small;
@@ -29,5 +29,5 @@ loop-index-preserved g c = record {
 
 pub returns-clause-connected : goal.returns-clause-connected
 returns-clause-connected g c counts bs l told reached most between =
-    txs_done counts bs l c.args.height c.args.txs.now (tables_in {G = g.R.Rows} c.loop-index.t) c.loop-index.after c.loop-index.index c.loop-index-test.false
+    txs_done counts bs l c.args.height c.args.txs.now (with_edits {G = g.R.Rows} c.loop-index.t) c.loop-index.after c.loop-index.index c.loop-index-test.false
     (c.loop-index.invariant.led counts bs l told reached most between)

@@ -1,7 +1,7 @@
 use Rattle.std.proofs.Common.{length, sym, ◌∙◌}
 use Rattle.std.proofs.lemmas.Result.{err_from_is_err_and}
 use Rattle.el_chain.proofs.CoinSteps.{err_passed}
-use Rattle.el_rows.specs.Transaction.{tables_in}
+use Rattle.el_rows.specs.Transaction.{with_edits}
 use Rattle.el_schema.proofs.Held.{count_txs, count_outs, count_ins}
 use Rattle.el_connect.proofs.TxLemmas.{room_ready, coins_at, few_touched, inputs_refused, fit_ready, room_touching, few_txs, few_scripts, tx_led, outputs_refused, ok_joined, err_mapped}
 use Rattle.el_connect.proofs.transaction.put_tx.Goals as goal
@@ -15,8 +15,8 @@ pub returns-in_err-touch_inputs-clause-refused : goal.returns-in_err-touch_input
 returns-in_err-touch_inputs-clause-refused g c counts bs l told reached most between counted =
     let e = c.in_err-touch_inputs.field-0.0 in
     let p = c.args.tx.now in
-    let shown = tables_in {G = g.R.Rows} c.args.t.now in
-    let rows = tables_in {G = g.R.Rows} c.take_inputs.new.t in
+    let shown = with_edits {G = g.R.Rows} c.args.t.now in
+    let rows = with_edits {G = g.R.Rows} c.take_inputs.new.t in
     let by = c.count-by.ensures.count ∙ count_txs counts bs l shown reached.hold in
     let ready = c.in_ok-left.ensures.ready counts bs l c.args.height told reached most between counted in
     let room = room_ready counts bs l c.args.height c.args.index p rows c.in_ok-left.left counted between ready in
@@ -29,8 +29,8 @@ returns-in_err-touch_inputs-clause-refused g c counts bs l told reached most bet
 pub returns-clause-connected : goal.returns-clause-connected
 returns-clause-connected g c counts bs l told reached most between counted =
     let p = c.args.tx.now in
-    let shown = tables_in {G = g.R.Rows} c.args.t.now in
-    let rows = tables_in {G = g.R.Rows} c.take_inputs.new.t in
+    let shown = with_edits {G = g.R.Rows} c.args.t.now in
+    let rows = with_edits {G = g.R.Rows} c.take_inputs.new.t in
     let left = c.in_ok-left.left in
     let by = c.count-by.ensures.count ∙ count_txs counts bs l shown reached.hold in
     let first = c.count-first_in.ensures.count ∙ count_ins counts bs l shown reached.hold in
@@ -43,13 +43,13 @@ returns-clause-connected g c counts bs l told reached most between counted =
     let fit = fit_ready counts bs l c.args.height c.args.index p rows left counted between ready c.count-by.result _ os _ by row c.as_slice.ensures touching c.requires.small in
     let places = room_touching counts bs l c.args.height c.args.index p rows left counted between ready c.count-by.result _ os _ by row c.as_slice.ensures touching in
     ok_joined c.make_outputs.result (c.make_outputs.ensures.made counts bs touching.lists told touching.reached places fit) (c.make_outputs.ensures.room counts bs touching.lists told touching.reached places fit)
-    (tx_led counts bs l c.args.height c.args.index p rows left counted between ready c.count-by.result _ os _ by row c.as_slice.ensures touching (tables_in {G = g.R.Rows} c.make_outputs.new.t))
+    (tx_led counts bs l c.args.height c.args.index p rows left counted between ready c.count-by.result _ os _ by row c.as_slice.ensures touching (with_edits {G = g.R.Rows} c.make_outputs.new.t))
 
 pub returns-clause-refused : goal.returns-clause-refused
 returns-clause-refused g c counts bs l told reached most between counted =
     let p = c.args.tx.now in
-    let shown = tables_in {G = g.R.Rows} c.args.t.now in
-    let rows = tables_in {G = g.R.Rows} c.take_inputs.new.t in
+    let shown = with_edits {G = g.R.Rows} c.args.t.now in
+    let rows = with_edits {G = g.R.Rows} c.take_inputs.new.t in
     let left = c.in_ok-left.left in
     let by = c.count-by.ensures.count ∙ count_txs counts bs l shown reached.hold in
     let first = c.count-first_in.ensures.count ∙ count_ins counts bs l shown reached.hold in

@@ -1,7 +1,7 @@
 use Rattle.std.proofs.Common.{◌≡◌, ◌⊎◌, ◌-◌, ◌++◌, ℕ, length, drop, sym, subst, ap, ◌∙◌, arith, eqb-true}
 use Rattle.std.proofs.lemmas.Result.{err_from_is_err_and}
 use Rattle.el_rows.proofs.TransactionLemmas.{as_edited, more_edits, nothing}
-use Rattle.el_rows.specs.Transaction.{tables_in}
+use Rattle.el_rows.specs.Transaction.{with_edits}
 use Rattle.el_chain.specs.Chains.{Chain}
 use Rattle.el_chain.specs.Moves.{FaultInAt}
 use Rattle.el_chain.proofs.CoinSteps.{err_passed}
@@ -20,8 +20,8 @@ loop-left-init g c =
       next = ap (λ (k : ℕ). drop k c.args.texts.now) (sym none);
       more = omega arith;
       adding = λ heads chain told stand linked.
-          subst (λ (k : ℕ). (blocks : Chain) × IsAdding heads chain c.args.nodes.now c.args.texts.now k (tables_in {G = g.R.Rows} c.args.t.now) blocks) none
-          (adding_begins heads chain c.args.nodes.now c.args.texts.now (tables_in {G = g.R.Rows} c.args.t.now) stand linked);
+          subst (λ (k : ℕ). (blocks : Chain) × IsAdding heads chain c.args.nodes.now c.args.texts.now k (with_edits {G = g.R.Rows} c.args.t.now) blocks) none
+          (adding_begins heads chain c.args.nodes.now c.args.texts.now (with_edits {G = g.R.Rows} c.args.t.now) stand linked);
     }
 
 pub overflow_sub-from : goal.overflow_sub-from
@@ -51,7 +51,7 @@ loop-left-preserved g c =
           let was = c.loop-left.invariant.adding heads chain told stand linked in
           let done = c.in_ok-put_batch.ensures.added heads chain was.0 told was.1 in (
             done.0,
-            subst (λ (k : ℕ). IsAdding heads chain c.args.nodes.now c.args.texts.now k (tables_in {G = g.R.Rows} c.put_batch.new.t) done.0) (sym p.place) done.1,
+            subst (λ (k : ℕ). IsAdding heads chain c.args.nodes.now c.args.texts.now k (with_edits {G = g.R.Rows} c.put_batch.new.t) done.0) (sym p.place) done.1,
           );
     }
 
@@ -71,7 +71,7 @@ loop-left-preserved-in_ok-put_batch g c =
           let was = c.loop-left.invariant.adding heads chain told stand linked in
           let done = c.in_ok-put_batch.ensures.added heads chain was.0 told was.1 in (
             done.0,
-            subst (λ (k : ℕ). IsAdding heads chain c.args.nodes.now c.args.texts.now k (tables_in {G = g.R.Rows} c.put_batch.new.t) done.0) (sym p.place) done.1,
+            subst (λ (k : ℕ). IsAdding heads chain c.args.nodes.now c.args.texts.now k (with_edits {G = g.R.Rows} c.put_batch.new.t) done.0) (sym p.place) done.1,
           );
     }
 

@@ -1,7 +1,7 @@
 use Rattle.std.proofs.Common.{◌≡◌, ◌⊎◌, ◌+◌, ◌<◌, ◌++◌, ◌∷◌, ℕ, [], length, refl, subst, arith, rules}
 use Rattle.std.proofs.lemmas.Result.{err_from_is_err_and}
 use Rattle.el_rows.proofs.TransactionLemmas.{as_edited, more_edits, nothing}
-use Rattle.el_rows.specs.Transaction.{tables_in}
+use Rattle.el_rows.specs.Transaction.{with_edits}
 use Rattle.el_chain.specs.Moves.{FaultInAt}
 use Rattle.el_chain.proofs.CoinSteps.{err_passed}
 use Rattle.el_chain.proofs.DraftSteps.{same_length}
@@ -15,7 +15,7 @@ pub loop-index-init : goal.loop-index-init
 loop-index-init g c = record {
   edits = as_edited (nothing c.args.t.now c.requires.live);
   more = omega arith;
-  adding = λ heads chain before told adding. (before, subst (λ (k : ℕ). IsAdding heads chain c.args.nodes.now c.args.texts.now k (tables_in {G = g.R.Rows} c.args.t.now) before) (omega arith) adding);
+  adding = λ heads chain before told adding. (before, subst (λ (k : ℕ). IsAdding heads chain c.args.nodes.now c.args.texts.now k (with_edits {G = g.R.Rows} c.args.t.now) before) (omega arith) adding);
 }
 
 pub overflow_add-at : goal.overflow_add-at
@@ -79,7 +79,7 @@ loop-index-preserved g c =
           let done = rw c.as_slice.ensures at c.in_ok-put_one.ensures.added heads (chain ++ was.0) told was.1.after.stand (adding_names _ _ _ _ _ _ _ _ _ was.1 n) in
           let more = adding_more heads chain c.args.nodes.now c.args.texts.now (c.args.from + c.loop-index.index) _ _ was.0 _ _ done.0 was.1 n done.1 in (
             was.0 ++ done.0 ∷ [],
-            subst (λ (k : ℕ). IsAdding heads chain c.args.nodes.now c.args.texts.now k (tables_in {G = g.R.Rows} c.put_one.new.t) (was.0 ++ done.0 ∷ [])) (omega arith) more,
+            subst (λ (k : ℕ). IsAdding heads chain c.args.nodes.now c.args.texts.now k (with_edits {G = g.R.Rows} c.put_one.new.t) (was.0 ++ done.0 ∷ [])) (omega arith) more,
           );
     }
 
@@ -100,5 +100,5 @@ returns-clause-added g c = λ heads chain before told adding.
     let was = c.loop-index.invariant.adding heads chain before told adding in
     let over : c.loop-index.index ≡ length c.args.blocks.now = omega arith in (
       was.0,
-      subst (λ (k : ℕ). IsAdding heads chain c.args.nodes.now c.args.texts.now (c.args.from + k) (tables_in {G = g.R.Rows} c.loop-index.t) was.0) over was.1,
+      subst (λ (k : ℕ). IsAdding heads chain c.args.nodes.now c.args.texts.now (c.args.from + k) (with_edits {G = g.R.Rows} c.loop-index.t) was.0) over was.1,
     )

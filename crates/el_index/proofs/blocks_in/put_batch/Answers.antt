@@ -1,7 +1,7 @@
 use Rattle.std.proofs.Common.{◌≡◌, ◌⊎◌, ◌+◌, ◌<◌, ℕ, List, length, refl, sym, subst, ap, ◌∙◌, Option, Some, None, arith, rules}
 use Rattle.el_block.specs.declared.fault.BlockFault.{BlockFault}
 use Rattle.el_row_formats.specs.declared.table.Table.TheVariants as table
-use Rattle.el_rows.specs.Transaction.{tables_in}
+use Rattle.el_rows.specs.Transaction.{with_edits}
 use Rattle.std.proofs.lemmas.Result.{err_from_is_err_and}
 use Rattle.el_chain.specs.Moves.{FaultInAt}
 use Rattle.el_chain.proofs.CoinSteps.{err_passed}
@@ -24,7 +24,7 @@ returns-in-None-clause-added g c heads chain before told a =
     let good : ArePrepared c.args.batch.now c.in-Ok.blocks.items None = subst (λ (f : Option BlockFault). ArePrepared c.args.batch.now c.in-Ok.blocks.items f) c.in-None.is r in
     let done = c.in_ok-put_all-in-Ok.ensures.added heads chain before told a in (
       done.0,
-      subst (λ (k : ℕ). IsAdding heads chain c.args.nodes.now c.args.texts.now (c.args.from + k) (tables_in {G = g.R.Rows} c.put_all.new.t) done.0)
+      subst (λ (k : ℕ). IsAdding heads chain c.args.nodes.now c.args.texts.now (c.args.from + k) (with_edits {G = g.R.Rows} c.put_all.new.t) done.0)
           (ap length c.as_slice.ensures.value ∙ sym (prepared_length c.args.batch.now c.in-Ok.blocks.items good)) done.1,
     )
 
@@ -33,7 +33,7 @@ returns-in-None-clause-more g c =
     let r = rw c.in-Ok.is at c.requires.ready in
     let good : ArePrepared c.args.batch.now c.in-Ok.blocks.items None = subst (λ (f : Option BlockFault). ArePrepared c.args.batch.now c.in-Ok.blocks.items f) c.in-None.is r in
     c.in_ok-put_all-in-Ok.ensures.more
-    ∙ ap (λ (k : ℕ). length (tables_in {G = g.R.Rows} c.args.t.now table.Blocks) + k) (ap length c.as_slice.ensures.value ∙ sym (prepared_length c.args.batch.now c.in-Ok.blocks.items good))
+    ∙ ap (λ (k : ℕ). length (with_edits {G = g.R.Rows} c.args.t.now table.Blocks) + k) (ap length c.as_slice.ensures.value ∙ sym (prepared_length c.args.batch.now c.in-Ok.blocks.items good))
 
 pub overflow_add-from : goal.overflow_add-from
 overflow_add-from g c =
@@ -69,11 +69,11 @@ returns-in-Some-clause-first_fault g c heads chain before told a =
     let bad : ArePrepared c.args.batch.now c.in-Ok.blocks.items (Some c.in-Some.fault) = subst (λ (f : Option BlockFault). ArePrepared c.args.batch.now c.in-Ok.blocks.items f) c.in-Some.is r in
     let done = c.in_ok-put_all-in-Ok.ensures.added heads chain before told a in
     let size : length c.in-Ok.blocks.items ≡ c.len.result = sym (c.len.ensures ∙ c.in-Ok.blocks.ok.0) in
-    bad_stops heads chain c.args.nodes.now c.args.texts.now (c.args.from + c.len.result) (tables_in {G = g.R.Rows} c.put_all.new.t) done.0 _ _ c.in-Some.fault c.bad.result
+    bad_stops heads chain c.args.nodes.now c.args.texts.now (c.args.from + c.len.result) (with_edits {G = g.R.Rows} c.put_all.new.t) done.0 _ _ c.in-Some.fault c.bad.result
     c.requires.nodes c.requires.of
     (subst (λ (k : ℕ). Bad c.args.texts.now (c.args.from + k) c.in-Some.fault) size (bad_next c.args.texts.now c.args.batch.now c.args.from c.in-Ok.blocks.items c.in-Some.fault c.requires.batch bad))
     refl c.bad.ensures.memory c.bad.ensures.kept
-    (subst (λ (k : ℕ). IsAdding heads chain c.args.nodes.now c.args.texts.now (c.args.from + k) (tables_in {G = g.R.Rows} c.put_all.new.t) done.0) (ap length c.as_slice.ensures.value ∙ size) done.1)
+    (subst (λ (k : ℕ). IsAdding heads chain c.args.nodes.now c.args.texts.now (c.args.from + k) (with_edits {G = g.R.Rows} c.put_all.new.t) done.0) (ap length c.as_slice.ensures.value ∙ size) done.1)
 
 pub returns-in_err-put_all-in-Ok-clause-first_fault : goal.returns-in_err-put_all-in-Ok-clause-first_fault
 returns-in_err-put_all-in-Ok-clause-first_fault g c = λ heads chain before told adding.

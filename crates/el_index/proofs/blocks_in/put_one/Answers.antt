@@ -1,6 +1,6 @@
 use Rattle.std.proofs.Common.{◌⊎◌}
 use Rattle.std.proofs.lemmas.Result.{err_from_is_err_and}
-use Rattle.el_rows.specs.Transaction.{tables_in}
+use Rattle.el_rows.specs.Transaction.{with_edits}
 use Rattle.el_chain.specs.Moves.{IsStop}
 use Rattle.el_chain.proofs.CoinSteps.{err_passed}
 use Rattle.el_index.specs.within.Adding.{IsOwn}
@@ -23,4 +23,4 @@ returns-clause-added g c heads chain told stand names =
     let r = c.requires.prepared in
     let named = names_tip c.args.node.now c.args.text.now r.0 _ c.requires.node c.requires.of r.1 names in
     let done = c.in_ok-connect_for.ensures.connected heads chain r.0 told stand (c.args.text.now, r.1) r.2 named in
-    is_after heads chain c.args.node.now c.args.text.now (tables_in {G = g.R.Rows} c.connect_for.new.t) r.0 c.requires.node c.requires.of r.1 named done
+    is_after heads chain c.args.node.now c.args.text.now (with_edits {G = g.R.Rows} c.connect_for.new.t) r.0 c.requires.node c.requires.of r.1 named done

@@ -5,7 +5,7 @@ use Rattle.el_chain.proofs.CoinSteps.{err_passed}
 use Rattle.el_index.specs.within.Adding.{IsOwn}
 use Rattle.el_row_formats.specs.Tables.{Tables}
 use Rattle.el_row_formats.specs.declared.table.Table.TheVariants as table
-use Rattle.el_rows.specs.Transaction.{tables_in}
+use Rattle.el_rows.specs.Transaction.{with_edits}
 use Rattle.el_index.proofs.Addings.{are_moved, moved_same}
 use Rattle.el_index.proofs.going.edit.Goals as goal
 
@@ -29,7 +29,7 @@ returns-in_err-touch_all-clause-first_fault g c heads chain told stand fits =
 pub returns-clause-moved : goal.returns-clause-moved
 returns-clause-moved g c heads chain told stand fits =
     let base = shorter c.args.plan.now.back chain in
-    let before = tables_in {G = g.R.Rows} c.take_back.new.t in
+    let before = with_edits {G = g.R.Rows} c.take_back.new.t in
     let back = c.in_ok-take_back.ensures.back heads chain told stand fits.within in
     let after = rw c.as_slice.ensures at c.in_ok-add_all.ensures.added heads base told back fits.linked in (
       after.0,

@@ -3,7 +3,7 @@ use Rattle.std.specs.List.{list_any}
 use Rattle.el_chain.specs.Chains.{Chain}
 use Rattle.el_tx.specs.declared.types.Tx.{Tx}
 use Rattle.el_model.specs.LedgerCalls.{Asked}
-use Rattle.el_kept.specs.Named.{IsOver}
+use Rattle.el_kept.specs.Named.{IsTableOver}
 use Rattle.el_join.specs.within.Tables.{is_output_at}
 use Rattle.el_join.proofs.Asked.{SoFar}
 use Rattle.el_join.proofs.asking.sources_of.Given as goal
@@ -17,6 +17,6 @@ invariant-loop-input g l =
           l.initial.ledger l.ledger;
       still : d.faults l.ledger ≡ d.faults l.initial.ledger;
       any : l.any_kept ≡ list_any (is_output_at l.table) l.sources.items;
-      so_far : (chain : Chain) (kept : List Tx) → IsOver l.table chain kept → d.stands l.initial.ledger chain
+      so_far : (chain : Chain) (kept : List Tx) → IsTableOver l.table chain kept → d.stands l.initial.ledger chain
           → SoFar chain kept l.inputs l.input-index l.sources.items;
     }

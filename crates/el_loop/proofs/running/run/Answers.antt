@@ -7,7 +7,7 @@ use Rattle.el_side.proofs.Deeds.{each_more}
 use Rattle.el_loop.proofs.Rises.{counted_none, counted_more, caused_end, caused_next, caused_halt}
 use Rattle.el_side.specs.Beneath.{ghosts}
 use Rattle.el_loop.specs.within.Progress.{taken_one, all_ghosts, snapshot}
-use Rattle.el_loop.specs.within.Sending.{stop_of}
+use Rattle.el_loop.specs.within.Sending.{halt_stop}
 use Rattle.el_core.specs.Arrivals.{with_all_bytes}
 use Rattle.el_loop.proofs.running.run.Goals as goal
 
@@ -80,7 +80,7 @@ returns-in-Err-clause-ends g c = λ first stood nobody files.
     (told_stopped (all_ghosts (ghosts g.G.Ledger g.A.Archive) g.Y.Relay g.K.Link) _ first c.args.options.node c.loop-turn._turn
     c.args.options.turns (with_bytes c.in-Ok.arrival c.next.new.buf) _
     (snapshot c.loop-turn.server c.loop-turn.archive c.loop-turn.relay c.loop-turn.link) c.next.new.self _
-    (stop_of c.in-Err.halt) nobody
+    (halt_stop c.in-Err.halt) nobody
     going c.in-Ok.ensures.took c.in-Ok.ensures.cause.uncounted
     (rw c.serve_arrival.ensures.same_calls c.next.ensures.called)
     c.loop-turn-test.true (rw is at stopped)))

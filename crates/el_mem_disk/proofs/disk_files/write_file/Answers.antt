@@ -1,12 +1,12 @@
 use Rattle.std.proofs.Common.{◌≡◌, ◌≤◌, length, sym, ◌∙◌, ap, subst}
 use Rattle.el_outside.specs.Images.{at_file}
-use Rattle.el_mem_disk.specs.DiskFiles.{FileState, file_of, file_written}
+use Rattle.el_mem_disk.specs.DiskFiles.{FileState, file_numbered, file_written}
 use Rattle.el_mem_disk.proofs.DiskFileLists.{found, file_of_set}
 use Rattle.el_mem_disk.proofs.disk_files.write_file.Goals as goal
 
 pub returns-clause-ok : goal.returns-clause-ok
 returns-clause-ok c =
-    let was : c.index_mut.result.now ≡ file_of c.args.files.now.items c.args.file =
+    let was : c.index_mut.result.now ≡ file_numbered c.args.files.now.items c.args.file =
     found c.reach.new.files.items c.args.file c.index_mut.result.now c.in_ok-reach.ensures.there c.index_mut.ensures.value
     ∙ ap (λ files. files c.args.file) c.reach.ensures.same in
     file_of_set c.reach.new.files.items c.args.file c.write.new.self c.in_ok-reach.ensures.there
@@ -14,7 +14,7 @@ returns-clause-ok c =
 
 pub write-requires-clause-place : goal.write-requires-clause-place
 write-requires-clause-place c =
-    let was : c.index_mut.result.now ≡ file_of c.args.files.now.items c.args.file =
+    let was : c.index_mut.result.now ≡ file_numbered c.args.files.now.items c.args.file =
     found c.reach.new.files.items c.args.file c.index_mut.result.now c.in_ok-reach.ensures.there c.index_mut.ensures.value
     ∙ ap (λ files. files c.args.file) c.reach.ensures.same in
     subst (λ (file : FileState). c.args.at ≤ length file.bytes) (sym was) c.requires.place

@@ -5,7 +5,7 @@ use Rattle.el_row_formats.specs.Tables.{size_of}
 use Rattle.el_row_formats.specs.OldRowBytes.{old_size_of}
 use Rattle.el_rows.specs.Changes.{count_at}
 use Rattle.el_redone.proofs.Runs.{goes_on}
-use Rattle.el_migrate.specs.within.Moving.{HasRows, HasOldRows, HasOldFiles, AreHeads, new_rows}
+use Rattle.el_migrate.specs.within.Moving.{HasOnlyRows, HasOldRows, HasOldFiles, AreHeads, new_rows}
 use Rattle.el_migrate.proofs.HeadRows.{scripts_whole, head_rows}
 use Rattle.el_migrate.proofs.moving.move_scripts.Goals as goal
 
@@ -31,10 +31,10 @@ returns-clause-rows g c told heads bs l had reach none =
     let are : AreHeads links l.scripts = scripts_whole heads bs l c.count.result old links had_n done.0 in
     let same : g.D.Disk.seen c.write_heads.new.disk 26 ≡ g.D.Disk.seen c.move_table.new.disk 26 = c.write_heads.ensures.others told 26 (λ is. omega (arith, is)) in
     on_ok_weaker c.write_heads.result
-    (λ (heads_there : HasRows table.ScriptHeads (g.D.Disk.seen c.write_heads.new.disk 27) (head_rows (length links) l.scripts) (length links)). (
-      subst (λ (file : List ℕ). HasRows table.Scripts file (new_rows (length c.args.links.now) bs l table.Scripts) (count_at c.args.pages.now table.Scripts)) (sym same)
-          (subst (λ k. HasRows table.Scripts (g.D.Disk.seen c.move_table.new.disk 26) (new_rows (length c.args.links.now) bs l table.Scripts) k) n done.1),
-      subst (λ k. HasRows table.ScriptHeads (g.D.Disk.seen c.write_heads.new.disk 27) (new_rows k bs l table.ScriptHeads) k) many
+    (λ (heads_there : HasOnlyRows table.ScriptHeads (g.D.Disk.seen c.write_heads.new.disk 27) (head_rows (length links) l.scripts) (length links)). (
+      subst (λ (file : List ℕ). HasOnlyRows table.Scripts file (new_rows (length c.args.links.now) bs l table.Scripts) (count_at c.args.pages.now table.Scripts)) (sym same)
+          (subst (λ k. HasOnlyRows table.Scripts (g.D.Disk.seen c.move_table.new.disk 26) (new_rows (length c.args.links.now) bs l table.Scripts) k) n done.1),
+      subst (λ k. HasOnlyRows table.ScriptHeads (g.D.Disk.seen c.write_heads.new.disk 27) (new_rows k bs l table.ScriptHeads) k) many
           heads_there,
     ))
     (c.write_heads.ensures.rows told l.scripts are)

@@ -6,7 +6,7 @@ use Rattle.el_row_formats.specs.Tables.{size_of}
 use Rattle.el_row_formats.specs.OldRowBytes.{old_size_of}
 use Rattle.el_rows.specs.Changes.{count_at}
 use Rattle.el_redone.proofs.Runs.{goes_on}
-use Rattle.el_migrate.specs.within.Moving.{HasOldFiles, HasRows, HasOldRows, new_rows}
+use Rattle.el_migrate.specs.within.Moving.{HasOldFiles, HasOnlyRows, HasOldRows, new_rows}
 use Rattle.el_migrate.specs.within.Moved.{new_count}
 use Rattle.el_migrate.proofs.MovedTables.{all_moved}
 use Rattle.el_migrate.proofs.moving.move_tables.Goals as goal
@@ -99,15 +99,15 @@ returns-clause-rows g c told heads bs l bits had no_txs no_scripts many =
     let row_5 = c.in_ok-move_scripts.ensures.rows told heads bs l (subst (λ (file : List ℕ). HasOldRows heads bs l table.Scripts (count_at c.args.pages.now table.Scripts) file) (sym (c.move_plain-3.ensures.others told 6 (λ is. omega (arith, is)) ∙ c.move_plain-2.ensures.others told 6 (λ is. omega (arith, is)) ∙ c.move_txs.ensures.others told 6 (λ is. omega (arith, is)) (λ is. omega (arith, is)) ∙ c.move_plain.ensures.others told 6 (λ is. omega (arith, is)))) (had.rows table.Scripts)) (subst (λ (file : List ℕ). count_at c.args.pages.now table.Scripts * old_size_of table.Scripts ≤ length file) (sym (c.move_plain-3.ensures.others told 6 (λ is. omega (arith, is)) ∙ c.move_plain-2.ensures.others told 6 (λ is. omega (arith, is)) ∙ c.move_txs.ensures.others told 6 (λ is. omega (arith, is)) (λ is. omega (arith, is)) ∙ c.move_plain.ensures.others told 6 (λ is. omega (arith, is)))) (had.long table.Scripts)) no_scripts in
     let row_6 = c.move_plain-4.ensures.rows told heads bs l (2 ^ bits) tt (λ e. cc) (λ e. cc) (subst (λ (file : List ℕ). HasOldRows heads bs l table.Entries (count_at c.args.pages.now table.Entries) file) (sym (c.move_scripts.ensures.others told 8 (λ is. omega (arith, is)) (λ is. omega (arith, is)) ∙ c.move_plain-3.ensures.others told 8 (λ is. omega (arith, is)) ∙ c.move_plain-2.ensures.others told 8 (λ is. omega (arith, is)) ∙ c.move_txs.ensures.others told 8 (λ is. omega (arith, is)) (λ is. omega (arith, is)) ∙ c.move_plain.ensures.others told 8 (λ is. omega (arith, is)))) (had.rows table.Entries)) (subst (λ (file : List ℕ). count_at c.args.pages.now table.Entries * old_size_of table.Entries ≤ length file) (sym (c.move_scripts.ensures.others told 8 (λ is. omega (arith, is)) (λ is. omega (arith, is)) ∙ c.move_plain-3.ensures.others told 8 (λ is. omega (arith, is)) ∙ c.move_plain-2.ensures.others told 8 (λ is. omega (arith, is)) ∙ c.move_txs.ensures.others told 8 (λ is. omega (arith, is)) (λ is. omega (arith, is)) ∙ c.move_plain.ensures.others told 8 (λ is. omega (arith, is)))) (had.long table.Entries)) in
     let as_many = c.requires.as_many ∙ many in
-    let P : Table → List ℕ → Type 0 = λ t file. HasRows t file (new_rows (2 ^ bits) bs l t) (new_count bits c.args.pages.now t) in
+    let P : Table → List ℕ → Type 0 = λ t file. HasOnlyRows t file (new_rows (2 ^ bits) bs l t) (new_count bits c.args.pages.now t) in
     on_ok_weaker c.move_plain-4.result
     (λ entries. all_moved (g.D.Disk.seen c.args.disk.now) (g.D.Disk.seen c.move_plain.new.disk) (g.D.Disk.seen c.move_txs.new.disk) (g.D.Disk.seen c.move_plain-2.new.disk) (g.D.Disk.seen c.move_plain-3.new.disk) (g.D.Disk.seen c.move_scripts.new.disk) (g.D.Disk.seen c.move_plain-4.new.disk)
     (c.move_plain.ensures.others told) (c.move_txs.ensures.others told) (c.move_plain-2.ensures.others told) (c.move_plain-3.ensures.others told) (c.move_scripts.ensures.others told) (c.move_plain-4.ensures.others told) P row_1
-    (subst (λ k. HasRows table.Txs (g.D.Disk.seen c.move_txs.new.disk 22) (new_rows k bs l table.Txs) (count_at c.args.pages.now table.Txs)) many row_2.0)
-    (subst (λ k. HasRows table.TxHeads (g.D.Disk.seen c.move_txs.new.disk 23) (new_rows k bs l table.TxHeads) k) many row_2.1)
+    (subst (λ k. HasOnlyRows table.Txs (g.D.Disk.seen c.move_txs.new.disk 22) (new_rows k bs l table.Txs) (count_at c.args.pages.now table.Txs)) many row_2.0)
+    (subst (λ k. HasOnlyRows table.TxHeads (g.D.Disk.seen c.move_txs.new.disk 23) (new_rows k bs l table.TxHeads) k) many row_2.1)
     row_3 row_4
-    (subst (λ k. HasRows table.Scripts (g.D.Disk.seen c.move_scripts.new.disk 26) (new_rows k bs l table.Scripts) (count_at c.args.pages.now table.Scripts)) as_many row_5.0)
-    (subst (λ k. HasRows table.ScriptHeads (g.D.Disk.seen c.move_scripts.new.disk 27) (new_rows k bs l table.ScriptHeads) k) as_many row_5.1)
+    (subst (λ k. HasOnlyRows table.Scripts (g.D.Disk.seen c.move_scripts.new.disk 26) (new_rows k bs l table.Scripts) (count_at c.args.pages.now table.Scripts)) as_many row_5.0)
+    (subst (λ k. HasOnlyRows table.ScriptHeads (g.D.Disk.seen c.move_scripts.new.disk 27) (new_rows k bs l table.ScriptHeads) k) as_many row_5.1)
     entries)
     row_6
 

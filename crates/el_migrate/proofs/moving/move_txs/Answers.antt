@@ -6,7 +6,7 @@ use Rattle.el_row_formats.specs.OldRowBytes.{old_size_of}
 use Rattle.el_rows.specs.Changes.{count_at}
 use Rattle.el_tables.specs.Lists.{ListedTx}
 use Rattle.el_redone.proofs.Runs.{goes_on}
-use Rattle.el_migrate.specs.within.Moving.{HasRows, HasOldRows, HasOldFiles, AreHeads, new_rows}
+use Rattle.el_migrate.specs.within.Moving.{HasOnlyRows, HasOldRows, HasOldFiles, AreHeads, new_rows}
 use Rattle.el_migrate.proofs.HeadRows.{txs_whole, head_rows, tx_head_rows}
 use Rattle.el_migrate.proofs.moving.move_txs.Goals as goal
 
@@ -32,11 +32,11 @@ returns-clause-rows g c told heads bs l had reach none =
     let are : AreHeads links (map (λ (t : ListedTx). t.txid) l.txs) = txs_whole heads bs l c.count.result old links had_n done.0 in
     let same : g.D.Disk.seen c.write_heads.new.disk 22 ≡ g.D.Disk.seen c.move_table.new.disk 22 = c.write_heads.ensures.others told 22 (λ is. omega (arith, is)) in
     on_ok_weaker c.write_heads.result
-    (λ (heads_there : HasRows table.TxHeads (g.D.Disk.seen c.write_heads.new.disk 23) (head_rows (length links) (map (λ (t : ListedTx). t.txid) l.txs)) (length links)). (
-      subst (λ (file : List ℕ). HasRows table.Txs file (new_rows (length c.args.links.now) bs l table.Txs) (count_at c.args.pages.now table.Txs)) (sym same)
-          (subst (λ k. HasRows table.Txs (g.D.Disk.seen c.move_table.new.disk 22) (new_rows (length c.args.links.now) bs l table.Txs) k) n done.1),
-      subst (λ k. HasRows table.TxHeads (g.D.Disk.seen c.write_heads.new.disk 23) (new_rows k bs l table.TxHeads) k) many
-          (subst (λ rows. HasRows table.TxHeads (g.D.Disk.seen c.write_heads.new.disk 23) rows (length links)) (tx_head_rows (length links) bs l) heads_there),
+    (λ (heads_there : HasOnlyRows table.TxHeads (g.D.Disk.seen c.write_heads.new.disk 23) (head_rows (length links) (map (λ (t : ListedTx). t.txid) l.txs)) (length links)). (
+      subst (λ (file : List ℕ). HasOnlyRows table.Txs file (new_rows (length c.args.links.now) bs l table.Txs) (count_at c.args.pages.now table.Txs)) (sym same)
+          (subst (λ k. HasOnlyRows table.Txs (g.D.Disk.seen c.move_table.new.disk 22) (new_rows (length c.args.links.now) bs l table.Txs) k) n done.1),
+      subst (λ k. HasOnlyRows table.TxHeads (g.D.Disk.seen c.write_heads.new.disk 23) (new_rows k bs l table.TxHeads) k) many
+          (subst (λ rows. HasOnlyRows table.TxHeads (g.D.Disk.seen c.write_heads.new.disk 23) rows (length links)) (tx_head_rows (length links) bs l) heads_there),
     ))
     (c.write_heads.ensures.rows told (map (λ (t : ListedTx). t.txid) l.txs) are)
 

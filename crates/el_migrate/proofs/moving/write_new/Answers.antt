@@ -2,7 +2,7 @@ use Rattle.std.proofs.Common.{◌≡◌, ◌⊎◌, inl, inr, ◌<◌, ◌≤◌
 use Rattle.std.proofs.Math.Pow.{pow_mono}
 use Rattle.el_row_formats.specs.declared.table.Table.{Table}
 use Rattle.el_redone.proofs.Runs.{goes_on}
-use Rattle.el_migrate.specs.within.Moving.{HasOldFiles, HasRows, AreHeads, new_rows}
+use Rattle.el_migrate.specs.within.Moving.{HasOldFiles, HasOnlyRows, AreHeads, new_rows}
 use Rattle.el_migrate.specs.within.Moved.{new_count}
 use Rattle.el_migrate.proofs.MovedTables.{old_rows_there, files_there}
 use Rattle.el_migrate.proofs.moving.write_new.Goals as goal
@@ -58,7 +58,7 @@ returns-clause-rows g c told heads bs l had =
     let txs = c.as_mut_slice.ensures.value in
     let scripts = c.as_mut_slice-2.ensures.value in
     let cleared = old_rows_there heads bs l c.args.pages.now (g.D.Disk.seen c.args.disk.now) (g.D.Disk.seen c.clear_files.new.disk) (λ f lt. c.clear_files.ensures.others told f (inl lt)) had in
-    let P : Table → List ℕ → Type 0 = λ t file. HasRows t file (new_rows (2 ^ c.args.bits) bs l t) (new_count c.args.bits c.args.pages.now t) in
+    let P : Table → List ℕ → Type 0 = λ t file. HasOnlyRows t file (new_rows (2 ^ c.args.bits) bs l t) (new_count c.args.bits c.args.pages.now t) in
     files_there P (g.D.Disk.seen c.move_tables.new.disk) (g.D.Disk.seen c.close_files.new.disk) (c.in_ok-close_files.ensures.others told)
     (c.in_ok-move_tables.ensures.rows told heads bs l c.args.bits cleared
     (subst (λ (xs : List ℕ). AreHeads xs []) (sym txs) c.in-Ok.ensures.txs.1)

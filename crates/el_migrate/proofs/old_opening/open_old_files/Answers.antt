@@ -2,7 +2,7 @@ use Rattle.std.proofs.Common.{inl, inr, refl, ap, sym, subst, ◌∙◌, arith, 
 use Rattle.std.proofs.lemmas.Result.{err_from_is_err_and}
 use Rattle.el_outside.specs.Disk.{Image}
 use Rattle.el_outside.specs.Moments.{LeftNow}
-use Rattle.el_redone.specs.Redone.{StandsFor}
+use Rattle.el_redone.specs.Redone.{ImageStandsFor}
 use Rattle.el_redone.proofs.Runs.{now_has}
 use Rattle.el_pages.specs.declared.layout.TheConstants.{FORMAT_1}
 use Rattle.el_pages.specs.Records.{Spells}
@@ -132,7 +132,7 @@ returns-clause-stands g c told =
     let seen = g.D.Disk.seen c.args.disk.now in
     let begun = g.D.Disk.seen c.begin.new.disk in
     let start : Begun 9 seen begun = record { others = c.in_ok-begin.ensures.others told; kept = c.in_ok-begin.ensures.kept told; short = c.in_ok-begin.ensures.begun told } in
-    subst (λ (s : Image). StandsFor (Spells FORMAT_1) 0 9 s seen) (sym (c.check_old_files.ensures.seen told)) (stands_before FORMAT_1 seen begun start (g.D.Disk.seen c.finish.new.disk) (c.in_ok-finish.ensures.stands told))
+    subst (λ (s : Image). ImageStandsFor (Spells FORMAT_1) 0 9 s seen) (sym (c.check_old_files.ensures.seen told)) (stands_before FORMAT_1 seen begun start (g.D.Disk.seen c.finish.new.disk) (c.in_ok-finish.ensures.stands told))
 
 pub returns-clause-has : goal.returns-clause-has
 returns-clause-has g c told =

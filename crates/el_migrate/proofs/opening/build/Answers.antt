@@ -1,17 +1,17 @@
 use Rattle.std.proofs.Common.{◌≢◌, ◌⊎◌, inl, inr, ◌<◌, ℕ, ◌∙◌, arith}
 use Rattle.el_redone.specs.declared.steps.TheConstants.{ROOT}
 use Rattle.el_redone.proofs.Runs.{now_has}
-use Rattle.el_migrate.specs.ImageChains.{IsBeyond, ImageStands}
+use Rattle.el_migrate.specs.ImageChains.{IsOtherFile, ImageStands}
 use Rattle.el_outside.specs.Disk.{Image}
 use Rattle.el_migrate.proofs.Migrations.{keeps_old, written_for, both_kept, rooted_for, built_index}
 use Rattle.el_migrate.proofs.opening.build.Goals as goal
 
 -- a file beyond both formats' isn't of format 2, nor the root
-beyond_files : (f : ℕ) → IsBeyond f → (f < 20) ⊎ (29 < f)
+beyond_files : (f : ℕ) → IsOtherFile f → (f < 20) ⊎ (29 < f)
 beyond_files f (inl at) = inl at.1
 beyond_files f (inr at) = inr (omega (arith, at))
 
-beyond_root : (f : ℕ) → IsBeyond f → f ≢ ROOT
+beyond_root : (f : ℕ) → IsOtherFile f → f ≢ ROOT
 beyond_root f (inl at) is = omega (arith, is, at.1)
 beyond_root f (inr at) is = omega (arith, is, at)
 

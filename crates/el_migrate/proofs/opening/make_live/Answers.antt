@@ -1,7 +1,7 @@
 use Rattle.std.proofs.Common.{IfErr, OnOk, refl, ap, subst}
 use Rattle.std.proofs.lemmas.Result.{err_from_is_err_and}
 use Rattle.el_outside.specs.Disk.{Image}
-use Rattle.el_migrate.specs.within.Ready.{IsReady, IsRefused}
+use Rattle.el_migrate.specs.within.Ready.{IsReady, IsOpeningRefused}
 use Rattle.el_migrate.proofs.Readies.{keeps_read, keeps_after, ready_live, refused_failed}
 use Rattle.el_migrate.proofs.opening.make_live.Goals as goal
 
@@ -36,7 +36,7 @@ returns-clause-ready g c told =
 
 pub returns-clause-refused : goal.returns-clause-refused
 returns-clause-refused g c told =
-    subst (λ (was : Image). IfErr c.migrate.result (λ e. IsRefused c.args.magic was (g.D.Disk.seen c.migrate.new.disk) e)) (c.is_rooted.ensures.seen told) (c.migrate.ensures.refused told)
+    subst (λ (was : Image). IfErr c.migrate.result (λ e. IsOpeningRefused c.args.magic was (g.D.Disk.seen c.migrate.new.disk) e)) (c.is_rooted.ensures.seen told) (c.migrate.ensures.refused told)
 
 pub returns-clause-quiet : goal.returns-clause-quiet
 returns-clause-quiet g c told live = absurd (let yes_is = (c.in_ok-is_rooted.ensures.rooted told).1 live in let not_is = c.if-branch.false in cc (yes_is, not_is))

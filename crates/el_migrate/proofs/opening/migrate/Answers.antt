@@ -3,8 +3,8 @@ use Rattle.std.proofs.lemmas.Result.{err_from_is_err_and}
 use Rattle.el_redo.specs.declared.faults.OpenFault.{OpenFault}
 use Rattle.el_redo.specs.declared.faults.OpenFault.TheVariants as fault
 use Rattle.el_redone.specs.declared.steps.TheConstants.{ROOT}
-use Rattle.el_migrate.specs.ImageChains.{IsBeyond}
-use Rattle.el_migrate.specs.within.Ready.{IsRefused}
+use Rattle.el_migrate.specs.ImageChains.{IsOtherFile}
+use Rattle.el_migrate.specs.within.Ready.{IsOpeningRefused}
 use Rattle.el_migrate.specs.within.Rooting.{IsOpenedOld}
 use Rattle.el_migrate.proofs.OldLimits.{limits_1}
 use Rattle.el_migrate.proofs.Openings.{err_more}
@@ -12,7 +12,7 @@ use Rattle.el_migrate.proofs.Readies.{beyond_old, refused_old, refused_move}
 use Rattle.el_migrate.proofs.Migrations.{opened_one, opened_like, moved_one, opened_chain, opened_index, ready_moved}
 use Rattle.el_migrate.proofs.opening.migrate.Goals as goal
 
-beyond_root : (f : ℕ) → IsBeyond f → f ≢ ROOT
+beyond_root : (f : ℕ) → IsOtherFile f → f ≢ ROOT
 beyond_root f (inl at) is = omega (arith, is, at.1)
 beyond_root f (inr at) is = omega (arith, is, at)
 
@@ -35,7 +35,7 @@ returns-in_err-pages-clause-keeps g c told = record {
 pub returns-clause-refused : goal.returns-clause-refused
 returns-clause-refused g c told =
     let index = opened_index c.args.magic c.in_ok-pages.pages (g.D.Disk.seen c.args.disk.now) (g.D.Disk.seen c.open_old.new.disk) (c.in_ok-pages.ensures.has told) (c.in_ok-pages.ensures.stands told) c.in_ok-pages.ensures.heads in
-    err_more c.build.result (λ (e : OpenFault). (e ≡ fault.DiskFailed) ⊎ (e ≡ fault.Memory)) (λ (e : OpenFault). IsRefused c.args.magic (g.D.Disk.seen c.args.disk.now) (g.D.Disk.seen c.build.new.disk) e)
+    err_more c.build.result (λ (e : OpenFault). (e ≡ fault.DiskFailed) ⊎ (e ≡ fault.Memory)) (λ (e : OpenFault). IsOpeningRefused c.args.magic (g.D.Disk.seen c.args.disk.now) (g.D.Disk.seen c.build.new.disk) e)
     (λ e which. refused_move c.args.magic (g.D.Disk.seen c.args.disk.now) (g.D.Disk.seen c.build.new.disk) e (c.requires.unrooted told) which index (c.in_ok-pages.ensures.is_bad told))
     c.build.ensures.only
 

@@ -1,9 +1,9 @@
 use Rattle.std.proofs.Common.{inl, inr, ⊎_elim, ℕ, List, ap, sym, subst, ◌∙◌, arith}
 use Rattle.std.specs.Int.{w32, from_le_bytes}
 use Rattle.el_pages.specs.declared.layout.TheConstants.{FORMAT_2}
-use Rattle.el_recovery.specs.Checks.{NoneWaits, length_told}
+use Rattle.el_recovery.specs.Checks.{NoRecordWaits, length_told}
 use Rattle.el_recovery.specs.Openings.{disk_in}
-use Rattle.el_migrate.specs.within.Ready.{IsReady, IsRefused, KeepsAll}
+use Rattle.el_migrate.specs.within.Ready.{IsReady, IsOpeningRefused, KeepsAll}
 use Rattle.el_migrate.proofs.Images.{rooted_or_not}
 use Rattle.el_migrate.proofs.Readies.{opened_crash, opened_like}
 use Rattle.el_migrate.proofs.SameFiles.{bad_there}
@@ -128,21 +128,21 @@ returns-in-Err-clause-others g c told f at =
 
 pub returns-in-Err-clause-opens : goal.returns-in-Err-clause-opens
 returns-in-Err-clause-opens g c told tables =
-    let refused : IsRefused g.N.NetworkMagic.magic (g.D.Disk.seen c.args.disk) (g.D.Disk.seen c.prepare.new.disk) c.in-Err.fault =
-    subst (λ (m : List ℕ). IsRefused m (g.D.Disk.seen c.args.disk) (g.D.Disk.seen c.prepare.new.disk) c.in-Err.fault) c.magic.ensures (c.in-Err.ensures.refused told) in
+    let refused : IsOpeningRefused g.N.NetworkMagic.magic (g.D.Disk.seen c.args.disk) (g.D.Disk.seen c.prepare.new.disk) c.in-Err.fault =
+    subst (λ (m : List ℕ). IsOpeningRefused m (g.D.Disk.seen c.args.disk) (g.D.Disk.seen c.prepare.new.disk) c.in-Err.fault) c.magic.ensures (c.in-Err.ensures.refused told) in
     ⊎_elim (λ live. inl (refused.live live.0)) (λ old. refused.opens old.0 tables old.1)
 
 pub returns-in-Err-clause-opens_chain : goal.returns-in-Err-clause-opens_chain
 returns-in-Err-clause-opens_chain g c told chain stands =
-    let refused : IsRefused g.N.NetworkMagic.magic (g.D.Disk.seen c.args.disk) (g.D.Disk.seen c.prepare.new.disk) c.in-Err.fault =
-    subst (λ (m : List ℕ). IsRefused m (g.D.Disk.seen c.args.disk) (g.D.Disk.seen c.prepare.new.disk) c.in-Err.fault) c.magic.ensures (c.in-Err.ensures.refused told) in
+    let refused : IsOpeningRefused g.N.NetworkMagic.magic (g.D.Disk.seen c.args.disk) (g.D.Disk.seen c.prepare.new.disk) c.in-Err.fault =
+    subst (λ (m : List ℕ). IsOpeningRefused m (g.D.Disk.seen c.args.disk) (g.D.Disk.seen c.prepare.new.disk) c.in-Err.fault) c.magic.ensures (c.in-Err.ensures.refused told) in
     let any = stands_any g.N.NetworkMagic.magic (g.D.Disk.seen c.args.disk) chain stands in
     ⊎_elim (λ live. inl (refused.live live.0)) (λ old. refused.opens old.0 any.0 old.1) any.1
 
 pub returns-in-Err-clause-memory : goal.returns-in-Err-clause-memory
 returns-in-Err-clause-memory g c told is =
-    let refused : IsRefused g.N.NetworkMagic.magic (g.D.Disk.seen c.args.disk) (g.D.Disk.seen c.prepare.new.disk) c.in-Err.fault =
-    subst (λ (m : List ℕ). IsRefused m (g.D.Disk.seen c.args.disk) (g.D.Disk.seen c.prepare.new.disk) c.in-Err.fault) c.magic.ensures (c.in-Err.ensures.refused told) in
+    let refused : IsOpeningRefused g.N.NetworkMagic.magic (g.D.Disk.seen c.args.disk) (g.D.Disk.seen c.prepare.new.disk) c.in-Err.fault =
+    subst (λ (m : List ℕ). IsOpeningRefused m (g.D.Disk.seen c.args.disk) (g.D.Disk.seen c.prepare.new.disk) c.in-Err.fault) c.magic.ensures (c.in-Err.ensures.refused told) in
     ⊎_elim
     (λ live. absurd (let failed = refused.live live in cc))
     (λ not. ⊎_elim
@@ -153,8 +153,8 @@ returns-in-Err-clause-memory g c told is =
 
 pub returns-in-Err-clause-bad : goal.returns-in-Err-clause-bad
 returns-in-Err-clause-bad g c told =
-    let refused : IsRefused g.N.NetworkMagic.magic (g.D.Disk.seen c.args.disk) (g.D.Disk.seen c.prepare.new.disk) c.in-Err.fault =
-    subst (λ (m : List ℕ). IsRefused m (g.D.Disk.seen c.args.disk) (g.D.Disk.seen c.prepare.new.disk) c.in-Err.fault) c.magic.ensures (c.in-Err.ensures.refused told) in
+    let refused : IsOpeningRefused g.N.NetworkMagic.magic (g.D.Disk.seen c.args.disk) (g.D.Disk.seen c.prepare.new.disk) c.in-Err.fault =
+    subst (λ (m : List ℕ). IsOpeningRefused m (g.D.Disk.seen c.args.disk) (g.D.Disk.seen c.prepare.new.disk) c.in-Err.fault) c.magic.ensures (c.in-Err.ensures.refused told) in
     ⊎_elim
     (λ live. inl (refused.live live))
     (λ not. ⊎_elim
@@ -165,20 +165,20 @@ returns-in-Err-clause-bad g c told =
 
 pub returns-in-Err-clause-is_bad : goal.returns-in-Err-clause-is_bad
 returns-in-Err-clause-is_bad g c told found =
-    let refused : IsRefused g.N.NetworkMagic.magic (g.D.Disk.seen c.args.disk) (g.D.Disk.seen c.prepare.new.disk) c.in-Err.fault =
-    subst (λ (m : List ℕ). IsRefused m (g.D.Disk.seen c.args.disk) (g.D.Disk.seen c.prepare.new.disk) c.in-Err.fault) c.magic.ensures (c.in-Err.ensures.refused told) in
+    let refused : IsOpeningRefused g.N.NetworkMagic.magic (g.D.Disk.seen c.args.disk) (g.D.Disk.seen c.prepare.new.disk) c.in-Err.fault =
+    subst (λ (m : List ℕ). IsOpeningRefused m (g.D.Disk.seen c.args.disk) (g.D.Disk.seen c.prepare.new.disk) c.in-Err.fault) c.magic.ensures (c.in-Err.ensures.refused told) in
     ⊎_elim (λ live. inl (refused.live live.0)) (λ old. refused.is_bad old.0 found old.1)
 
 pub returns-in-Err-clause-untouched : goal.returns-in-Err-clause-untouched
 returns-in-Err-clause-untouched g c told live found body =
-    let refused : IsRefused g.N.NetworkMagic.magic (g.D.Disk.seen c.args.disk) (g.D.Disk.seen c.prepare.new.disk) c.in-Err.fault =
-    subst (λ (m : List ℕ). IsRefused m (g.D.Disk.seen c.args.disk) (g.D.Disk.seen c.prepare.new.disk) c.in-Err.fault) c.magic.ensures (c.in-Err.ensures.refused told) in
+    let refused : IsOpeningRefused g.N.NetworkMagic.magic (g.D.Disk.seen c.args.disk) (g.D.Disk.seen c.prepare.new.disk) c.in-Err.fault =
+    subst (λ (m : List ℕ). IsOpeningRefused m (g.D.Disk.seen c.args.disk) (g.D.Disk.seen c.prepare.new.disk) c.in-Err.fault) c.magic.ensures (c.in-Err.ensures.refused told) in
     inl (refused.live live)
 
 pub returns-in-Err-clause-untouched_old : goal.returns-in-Err-clause-untouched_old
 returns-in-Err-clause-untouched_old g c told not found body =
-    let refused : IsRefused g.N.NetworkMagic.magic (g.D.Disk.seen c.args.disk) (g.D.Disk.seen c.prepare.new.disk) c.in-Err.fault =
-    subst (λ (m : List ℕ). IsRefused m (g.D.Disk.seen c.args.disk) (g.D.Disk.seen c.prepare.new.disk) c.in-Err.fault) c.magic.ensures (c.in-Err.ensures.refused told) in
+    let refused : IsOpeningRefused g.N.NetworkMagic.magic (g.D.Disk.seen c.args.disk) (g.D.Disk.seen c.prepare.new.disk) c.in-Err.fault =
+    subst (λ (m : List ℕ). IsOpeningRefused m (g.D.Disk.seen c.args.disk) (g.D.Disk.seen c.prepare.new.disk) c.in-Err.fault) c.magic.ensures (c.in-Err.ensures.refused told) in
     refused.untouched not found body
 
 -- ---- calls
@@ -186,7 +186,7 @@ returns-in-Err-clause-untouched_old g c told not found body =
 pub returns-in-Ok-clause-quiet : goal.returns-in-Ok-clause-quiet
 returns-in-Ok-clause-quiet g c told live none =
     let same = (c.in-Ok.ensures.ready told).stays live 29 (omega arith) in
-    let few = c.open_pages.ensures.quiet told (subst (λ (file : List ℕ). NoneWaits file) (sym same) none) in
+    let few = c.open_pages.ensures.quiet told (subst (λ (file : List ℕ). NoRecordWaits file) (sym same) none) in
     omega (arith, few, c.prepare.ensures.quiet told live)
 
 pub returns-in-Ok-clause-calls : goal.returns-in-Ok-clause-calls

@@ -2,17 +2,17 @@ use Rattle.std.proofs.Common.{◌⊎◌, inl, inr, ◌<◌, ◌≤◌, ℕ, refl
 use Rattle.std.proofs.lemmas.Result.{err_from_is_err_and}
 use Rattle.el_outside.specs.Disk.{Image}
 use Rattle.el_pages.specs.Indexes.{IsRooted}
-use Rattle.el_migrate.specs.ImageChains.{IsBeyond}
+use Rattle.el_migrate.specs.ImageChains.{IsOtherFile}
 use Rattle.el_migrate.specs.within.Ready.{IsReady}
 use Rattle.el_migrate.proofs.Readies.{keeps_read, keeps_after, keeps_dropped, ready_dropped, refused_failed, refused_was}
 use Rattle.el_migrate.proofs.opening.prepare.Goals as goal
 
 -- a file beyond both formats' isn't synced
-beyond_first : (f : ℕ) → IsBeyond f → (f < 0) ⊎ (10 ≤ f)
+beyond_first : (f : ℕ) → IsOtherFile f → (f < 0) ⊎ (10 ≤ f)
 beyond_first f (inl at) = inr (omega (arith, at.0))
 beyond_first f (inr at) = inr (omega (arith, at))
 
-beyond_second : (f : ℕ) → IsBeyond f → (f < 20) ⊎ (31 ≤ f)
+beyond_second : (f : ℕ) → IsOtherFile f → (f < 20) ⊎ (31 ≤ f)
 beyond_second f (inl at) = inl at.1
 beyond_second f (inr at) = inr (omega (arith, at))
 

@@ -7,7 +7,7 @@ use Rattle.el_row_formats.specs.OldRowBytes.{old_size_of}
 use Rattle.el_redone.proofs.Runs.{stays, goes_on}
 use Rattle.el_pages.specs.declared.layout.TheConstants.{FORMAT_1, FORMAT_2}
 use Rattle.el_pages.specs.Layouts.{file_of}
-use Rattle.el_migrate.specs.within.Moving.{HasOldFiles, HasRows, new_rows}
+use Rattle.el_migrate.specs.within.Moving.{HasOldFiles, HasOnlyRows, new_rows}
 use Rattle.el_migrate.proofs.OldLimits.{sizes_1}
 use Rattle.el_migrate.proofs.RowRuns.{run_old}
 use Rattle.el_migrate.proofs.runs.move_run.Goals as goal
@@ -37,7 +37,7 @@ returns-clause-rows g c told counts bs l n moved had le long heads before =
     let is : c.read_whole.new.buf ≡ take (rows * old_size_of t) (drop (first * old_size_of t) (seen (file_of FORMAT_1 t))) =
     read ∙ ap₂ (λ m k. take m (drop k (seen c.file.result))) front_long same_first ∙ ap (λ f. take (rows * old_size_of t) (drop (first * old_size_of t) (seen f))) c.file.ensures in
     let old_rows = run_old counts bs l t n first rows (seen (file_of FORMAT_1 t)) c.read_whole.new.buf had le is in
-    let stood = subst (λ (s : Image). HasRows t (s (file_of FORMAT_2 t)) (new_rows (length c.args.links.now) bs l t) first) (sym (c.read_whole.ensures.seen told)) before in
+    let stood = subst (λ (s : Image). HasOnlyRows t (s (file_of FORMAT_2 t)) (new_rows (length c.args.links.now) bs l t) first) (sym (c.read_whole.ensures.seen told)) before in
     on_ok_weaker c.write_run.result
     (λ done. (c.move_rows.ensures.heads counts bs l moved old_rows heads, done))
     (c.write_run.ensures.rows told (new_rows (length c.args.links.now) bs l t) stood (c.move_rows.ensures.rows counts bs l moved old_rows heads))

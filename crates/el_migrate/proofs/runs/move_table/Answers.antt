@@ -4,7 +4,7 @@ use Rattle.el_row_formats.specs.OldRowBytes.{old_size_of}
 use Rattle.el_redone.proofs.Runs.{goes_on, no_calls}
 use Rattle.el_pages.specs.declared.layout.TheConstants.{FORMAT_1, FORMAT_2}
 use Rattle.el_pages.specs.Layouts.{file_of}
-use Rattle.el_migrate.specs.within.Moving.{HasRows, HasOldRows, HasOldFiles, HeadsOf, new_rows}
+use Rattle.el_migrate.specs.within.Moving.{HasOnlyRows, HasOldRows, HasOldFiles, HeadsOf, new_rows}
 use Rattle.el_migrate.proofs.RowRuns.{no_run, other_file}
 use Rattle.el_migrate.proofs.runs.move_table.Goals as goal
 
@@ -37,9 +37,9 @@ loop-first-preserved g c =
           let same = was.others told (file_of FORMAT_1 t) (other_file t) in
           let had_now = subst (λ file. HasOldRows counts bs l t n file) (sym same) had in
           let reach_now = subst (λ file. n * old_size_of t ≤ length file) (sym same) reach in
-          let rows_now = subst (λ k. HasRows t (g.D.Disk.seen c.loop-first.disk (file_of FORMAT_2 t)) (new_rows k bs l t) c.loop-first.first) (sym was.many) before.1 in
+          let rows_now = subst (λ k. HasOnlyRows t (g.D.Disk.seen c.loop-first.disk (file_of FORMAT_2 t)) (new_rows k bs l t) c.loop-first.first) (sym was.many) before.1 in
           let done = c.in_ok-move_run.ensures.rows told counts bs l n moved had_now (omega (arith, c.min-rows.ensures, was.within)) reach_now before.0 rows_now in
-          (done.0, subst (λ k. HasRows t (g.D.Disk.seen c.move_run.new.disk (file_of FORMAT_2 t)) (new_rows k bs l t) (c.loop-first.first + rows)) was.many done.1);
+          (done.0, subst (λ k. HasOnlyRows t (g.D.Disk.seen c.move_run.new.disk (file_of FORMAT_2 t)) (new_rows k bs l t) (c.loop-first.first + rows)) was.many done.1);
       grown = λ told. c.in_ok-move_run.ensures.grown told;
       others = λ told f ne. c.move_run.ensures.others told f ne ∙ was.others told f ne;
       crash = λ told files each. goes_on g.D.Disk (λ d t u i le left. g.met.D.Disk.earlier d t u i told le left) c.args.disk.now c.loop-first.disk c.move_run.new.disk (HasOldFiles files)
@@ -58,7 +58,7 @@ returns-in_err-move_run-clause-others g c told f ne = c.move_run.ensures.others 
 pub returns-clause-rows : goal.returns-clause-rows
 returns-clause-rows g c told counts bs l moved had reach heads =
     let all : c.loop-first.first ≡ c.args.count = omega (arith, c.loop-first.invariant.within, c.loop-first-test.false) in
-    subst (λ k. HeadsOf c.args.t l k c.loop-first.links × HasRows c.args.t (g.D.Disk.seen c.loop-first.disk (file_of FORMAT_2 c.args.t)) (new_rows (length c.args.links.now) bs l c.args.t) k) all
+    subst (λ k. HeadsOf c.args.t l k c.loop-first.links × HasOnlyRows c.args.t (g.D.Disk.seen c.loop-first.disk (file_of FORMAT_2 c.args.t)) (new_rows (length c.args.links.now) bs l c.args.t) k) all
     (c.loop-first.invariant.rows told counts bs l moved had reach heads)
 
 pub returns-clause-grown : goal.returns-clause-grown

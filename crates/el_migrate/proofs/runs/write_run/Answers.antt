@@ -4,7 +4,7 @@ use Rattle.el_outside.specs.Disk.{over}
 use Rattle.el_row_formats.specs.Tables.{size_of}
 use Rattle.el_pages.specs.declared.layout.TheConstants.{FORMAT_2}
 use Rattle.el_pages.specs.Layouts.{file_of}
-use Rattle.el_migrate.specs.within.Moving.{HasRows}
+use Rattle.el_migrate.specs.within.Moving.{HasOnlyRows}
 use Rattle.el_migrate.proofs.RowRuns.{run_rows}
 use Rattle.el_migrate.proofs.runs.write_run.Goals as goal
 
@@ -17,5 +17,5 @@ returns-clause-rows g c told all has each =
     let at : c.args.first * c.size.result ≡ c.args.first * size_of t = ap (λ s. c.args.first * s) c.size.ensures in
     let written : g.D.Disk.seen c.write_at.new.self (file_of FORMAT_2 t) ≡ over file (c.args.first * size_of t) c.args.bytes.now =
     ap (g.D.Disk.seen c.write_at.new.self) (sym c.file.ensures) ∙ is ∙ ap₂ (λ f n. over (g.D.Disk.seen c.args.disk.now f) n c.args.bytes.now) c.file.ensures at in
-    subst (λ b. HasRows t b all (c.args.first + c.args.rows)) (sym written) (run_rows t file c.args.bytes.now all c.args.first c.args.rows has c.requires.long each))
+    subst (λ b. HasOnlyRows t b all (c.args.first + c.args.rows)) (sym written) (run_rows t file c.args.bytes.now all c.args.first c.args.rows has c.requires.long each))
     (c.write_at.ensures.written told)

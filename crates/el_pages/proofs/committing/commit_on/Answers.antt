@@ -4,7 +4,7 @@ use Rattle.el_outside.specs.Disk.{OnDisk, over}
 use Rattle.el_outside.specs.Moments.{LeftNow}
 use Rattle.el_redo.specs.RedoBody.{head_bytes, changes_bytes}
 use Rattle.el_rows.specs.Changes.{under}
-use Rattle.el_redone.specs.Redone.{Fits, into}
+use Rattle.el_redone.specs.Redone.{WritesFit, into}
 use Rattle.el_pages.specs.declared.layout.TheConstants.{FORMAT_2}
 use Rattle.el_pages.specs.Records.{writes_of}
 use Rattle.el_pages.specs.Indexes.{tables_in}
@@ -100,7 +100,7 @@ write_all-requires-clause-fits g c told f low lt =
     let is = c.meta_row-meta.ensures in
     let has = c.requires.has told in
     let ne : f ≢ 29 = λ e. omega (arith, lt, e) in
-    subst (λ (b : List ℕ). Fits (into f (writes_of FORMAT_2 meta changes)) (length b)) (sym (c.set_gate.ensures.others told f ne ∙ (c.stage.ensures.aside told).others f ne))
+    subst (λ (b : List ℕ). WritesFit (into f (writes_of FORMAT_2 meta changes)) (length b)) (sym (c.set_gate.ensures.others told f ne ∙ (c.stage.ensures.aside told).others f ne))
     (fits_2 head files counts new changes meta is has c.requires.made f low lt)
 
 -- what holds of an answer for two reasons

@@ -1,7 +1,7 @@
 use Rattle.std.proofs.Common.{rules, ◌≡◌, ◌*◌, take, sym, ap, subst, arith}
 use Rattle.el_row_formats.specs.declared.table.Table.{Table}
 use Rattle.el_row_formats.specs.Tables.{size_of, row_at}
-use Rattle.el_pages.specs.within.Runs.{AreRows}
+use Rattle.el_pages.specs.within.Runs.{AreConsecutiveRows}
 use Rattle.el_pages.proofs.GatheredRuns.{one_row, rows_front}
 use Rattle.el_pages.proofs.gathering.following.Goals.{then-ne-via-then-ne, then-ne-via-else-ne+then-run-row}
 use Rattle.el_pages.proofs.gathering.following.Goals as goal
@@ -23,13 +23,13 @@ returns-clause-rows c =
     let n = c.min-rows.result in
     let table : run.table ≡ c.args.t = search rules in
     let row : run.first ≡ c.args.row = search rules in
-    let all : AreRows changes c.args.k run.table run.first run.rows bytes = record {
+    let all : AreConsecutiveRows changes c.args.k run.table run.first run.rows bytes = record {
       within = c.run-run.ensures.within;
       limit = c.run-run.ensures.limit;
       long = c.run-run.ensures.long;
       each = c.run-run.ensures.each;
     } in
-    subst (λ m. AreRows changes c.args.k c.args.t c.args.row n (take m bytes)) (ap (λ s. n * s) (sym c.size.ensures))
+    subst (λ m. AreConsecutiveRows changes c.args.k c.args.t c.args.row n (take m bytes)) (ap (λ s. n * s) (sym c.size.ensures))
     (rows_front changes c.args.k c.args.t c.args.row run.rows n bytes (omega (arith, c.min-rows.ensures))
-    (subst (λ i. AreRows changes c.args.k c.args.t i run.rows bytes) row
-    (subst (λ (u : Table). AreRows changes c.args.k u run.first run.rows bytes) table all)))
+    (subst (λ i. AreConsecutiveRows changes c.args.k c.args.t i run.rows bytes) row
+    (subst (λ (u : Table). AreConsecutiveRows changes c.args.k u run.first run.rows bytes) table all)))

@@ -1,6 +1,6 @@
 use Rattle.std.proofs.Common.{◌≡◌, ◌⊎◌, ◌<◌, ◌≤◌, ◌-◌, ℕ, List, length, drop, map}
 use Rattle.el_outside.specs.Disk.{Image}
-use Rattle.el_redone.specs.Redone.{Write, overlaid, Fits, into}
+use Rattle.el_redone.specs.Redone.{Write, overlaid, WritesFit, into}
 use Rattle.el_redone.specs.Steps.{EachNow, Leaves, WillBe}
 use Rattle.el_pages.specs.declared.layout.TheConstants.{FORMAT_2}
 use Rattle.el_pages.specs.Records.{write_of, writes_of}
@@ -11,7 +11,7 @@ abbrev pub invariant-loop-k : goal.invariant-loop-k
 invariant-loop-k g l = record {
   within : l.k ≤ length l.sealed.changes;
   same : length l.buffer ≡ length l.fn.buffer;
-  fits : g.D.Disk.tells → (f : ℕ) → 20 ≤ f → f < 29 → Fits (into f (map (write_of FORMAT_2) (drop l.k l.sealed.changes))) (length (g.D.Disk.seen l.disk f));
+  fits : g.D.Disk.tells → (f : ℕ) → 20 ≤ f → f < 29 → WritesFit (into f (map (write_of FORMAT_2) (drop l.k l.sealed.changes))) (length (g.D.Disk.seen l.disk f));
   gives : g.D.Disk.tells → (f : ℕ) → 20 ≤ f → f < 29 → overlaid (into f (map (write_of FORMAT_2) (drop l.k l.sealed.changes))) (g.D.Disk.seen l.disk f)
       ≡ overlaid (into f (map (write_of FORMAT_2) l.sealed.changes)) (g.D.Disk.seen l.fn.disk f);
   beside : g.D.Disk.tells → (f : ℕ) → (f < 20) ⊎ (29 ≤ f) → g.D.Disk.seen l.disk f ≡ g.D.Disk.seen l.fn.disk f;

@@ -1,7 +1,7 @@
 use Rattle.std.proofs.Common.{◌≡◌, ◌<◌, ◌^◌, ℕ, Option, Some, option_map, slice_get, sym, subst, ◌∙◌, arith}
 use Rattle.el_row_formats.specs.RowBytes.{number_limit, tx_row_bytes, FitsTxRow, link_number}
 use Rattle.el_row_formats.specs.declared.table.Table.TheVariants as table
-use Rattle.el_rows.specs.Transaction.{tables_in}
+use Rattle.el_rows.specs.Transaction.{with_edits}
 use Rattle.el_schema.specs.Rows.{tx_fields}
 use Rattle.el_schema.proofs.Rows.{read_at}
 use Rattle.el_position.specs.declared.lookup.NumberedTx.{NumberedTx}
@@ -18,7 +18,7 @@ returns-in-None-clause-newest g c counts bs l told hold some =
 
 pub returns-in-Some-clause-row : goal.returns-in-Some-clause-row
 returns-in-Some-clause-row g c tb told same x is =
-    let shown = tables_in {G = g.R.Rows} c.args.t.now in
+    let shown = with_edits {G = g.R.Rows} c.args.t.now in
     let n = c.in-Some.number in
     let here = read_at tx_row_bytes tx_fields FitsTxRow tb.txs (shown table.Txs) n c.read-row.result c.find_row.new.row (same.each table.Txs) same.fit.txs
     (c.in_ok-found.ensures.below n c.in-Some.is) (c.in_ok-found.ensures.row told n c.in-Some.is) c.read-row.ensures.only in

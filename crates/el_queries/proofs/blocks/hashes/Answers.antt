@@ -1,7 +1,7 @@
 use Rattle.std.proofs.Common.{◌≡◌, ℕ, suc, ◌+◌, List, [], ◌∷◌, ◌++◌, map, take, refl, ap, ap₂, sym, subst, ◌∙◌, arith, length, length-append}
 use Rattle.el_base.specs.Hashing.{sha256d}
 use Rattle.el_base.specs.declared.hash.Hash32.{Hash32}
-use Rattle.el_rows.specs.Transaction.{tables_in}
+use Rattle.el_rows.specs.Transaction.{with_edits}
 use Rattle.el_schema.proofs.StandingLemmas.{holds}
 use Rattle.el_tables.specs.ChainLists.{lists, listed_blocks}
 use Rattle.el_tables.specs.Tables.{tables_of, in_both}
@@ -32,7 +32,7 @@ loop-h-preserved g c = record {
 
 pub returns-clause-hashes : goal.returns-clause-hashes
 returns-clause-hashes g c chain told stand =
-    let hold = (holds (tables_in {G = g.R.Rows} c.args.t.now) chain stand).1 in
+    let hold = (holds (with_edits {G = g.R.Rows} c.args.t.now) chain stand).1 in
     let end : c.loop-h.h ≡ c.args.upto + 1 = omega (arith, c.from-h-end.ensures, c.loop-h-test.false, c.loop-h.auto.h-end) in
     c.loop-h.invariant.hashes (tables_of (in_both stand.0) (listed_blocks chain) (lists chain)) told hold
     ∙ ap (λ (n : ℕ). map hash_in (take n (listed_blocks chain))) end ∙ hashes_told chain c.args.upto

@@ -2,7 +2,7 @@ use Rattle.std.proofs.Common.{◌≡◌, ◌<◌, ◌-◌, ◌||◌, List, lengt
 use Rattle.std.specs.List.{list_any}
 use Rattle.el_base.specs.declared.hash.Hash32 as hash
 use Rattle.el_chain.specs.Headers.{same_hash}
-use Rattle.el_rows.specs.Transaction.{tables_in}
+use Rattle.el_rows.specs.Transaction.{with_edits}
 use Rattle.el_rows.proofs.TransactionLemmas.{SoFar}
 use Rattle.el_tables.specs.ChainLists.{ListedBlock}
 use Rattle.el_tables.specs.Lists.{Lists}
@@ -13,7 +13,7 @@ use Rattle.el_queries.proofs.buried.touch_all_buried.Given as goal
 
 abbrev pub invariant-loop-tx : goal.invariant-loop-tx
 invariant-loop-tx g l =
-    let shown = tables_in {G = g.R.Rows} l.fn.t in
+    let shown = with_edits {G = g.R.Rows} l.fn.t in
     record {
       read : SoFar {G = g.R.Rows} l.fn.t l.t;
       walk : (counts : HeadCounts) (bs : List ListedBlock) (ls : Lists) (s : hash.Hash32) → g.R.Rows.tells → Hold counts bs ls shown → 0 < counts.txs

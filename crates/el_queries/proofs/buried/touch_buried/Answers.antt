@@ -4,7 +4,7 @@ use Rattle.el_chain.specs.Headers.{same_hash}
 use Rattle.el_chain.proofs.TouchLemmas.{or_nothing}
 use Rattle.el_row_formats.specs.Tables.{Tables}
 use Rattle.el_row_formats.specs.declared.table.Table.TheVariants as table
-use Rattle.el_rows.specs.Transaction.{tables_in}
+use Rattle.el_rows.specs.Transaction.{with_edits}
 use Rattle.el_rows.proofs.TransactionLemmas.{more}
 use Rattle.el_tables.specs.Tables.{tables_of, numbers_from}
 use Rattle.el_schema.specs.Rows.{Hold}
@@ -34,7 +34,7 @@ returns-clause-touched g c counts bs l s told hold some =
     let old = list_any (same_hash s) c.args.touched.now in
     let told_tx = tx_read counts.txs l.txs 0 l.txs c.args.tx row (c.in_ok-row.ensures.row (tables_of counts bs l) told hold) in
     let test = λ (i : ℕ). buries_at s c.args.tx l (record { txid = row.txid; index = i }) in
-    let many : c.count.result ≡ length l.outs = c.count.ensures.count ∙ ap (λ (T : Tables). length (T table.Outs)) c.tx_row.ensures.read.tables ∙ count_outs (tables_in {G = g.R.Rows} c.args.t.now) (tables_in {G = g.R.Rows} c.args.t.now) (tables_of counts bs l) hold in
+    let many : c.count.result ≡ length l.outs = c.count.ensures.count ∙ ap (λ (T : Tables). length (T table.Outs)) c.tx_row.ensures.read.tables ∙ count_outs (with_edits {G = g.R.Rows} c.args.t.now) (with_edits {G = g.R.Rows} c.args.t.now) (tables_of counts bs l) hold in
     let capped : list_any test (numbers_from 0 c.min-most.result) ≡ list_any test (numbers_from 0 row.outs) =
     any_capped test row.outs (length l.outs) c.min-most.result (omega (arith, many, c.min-most.ensures, c.from.ensures)) (λ i le. past_buries s c.args.tx l row.txid i le) in
     numbers_end test c.loop-index.index c.min-most.result _ _ c.loop-index-test.false (c.loop-index.invariant.walk counts bs l s told hold some)

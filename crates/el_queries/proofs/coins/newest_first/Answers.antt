@@ -2,7 +2,7 @@ use Rattle.std.proofs.Common.{◌≡◌, ◌≤◌, ◌+◌, ℕ, List, Option, 
 use Rattle.el_base.specs.declared.hash.Hash32.{Hash32}
 use Rattle.el_chain.specs.declared.coin.Coin.{Coin}
 use Rattle.el_row_formats.specs.Tables.{Tables}
-use Rattle.el_rows.specs.Transaction.{tables_in, reads_in}
+use Rattle.el_rows.specs.Transaction.{with_edits, reads_in}
 use Rattle.el_row_formats.specs.declared.script_row.ScriptRow.{ScriptRow}
 use Rattle.el_row_formats.specs.declared.table.Table.TheVariants as table
 use Rattle.el_rows.proofs.TransactionLemmas.{begun, more}
@@ -29,7 +29,7 @@ returns-in_default-clause-found g c counts bs l told hold heads fits =
 
 pub loop-link-init : goal.loop-link-init
 loop-link-init g c =
-    let shown = tables_in {G = g.R.Rows} c.args.t.now in
+    let shown = with_edits {G = g.R.Rows} c.args.t.now in
     let s = c.args.script_hash.now in
     let link = c.if_below-link.result in
     let link_is = λ (counts : HeadCounts) (bs : List ListedBlock) (l : Lists) (told : g.R.Rows.tells) (hold : Hold counts bs l shown) (heads : HasHeads counts l) (fits : Fits l).
@@ -79,7 +79,7 @@ returns-in_err-push_coins-clause-rows g c counts bs l told hold heads fits =
 
 pub loop-link-preserved : goal.loop-link-preserved
 loop-link-preserved g c =
-    let shown = tables_in {G = g.R.Rows} c.args.t.now in
+    let shown = with_edits {G = g.R.Rows} c.args.t.now in
     let s = c.args.script_hash.now in
     let n = c.in-Some-link.n in
     let entry = c.in_ok-entry.entry in

@@ -1,7 +1,7 @@
 use Rattle.std.proofs.Common.{◌≡◌, ◌∙◌, ◌+◌, ◌-◌, ◌<◌, ◌++◌, ℕ, List, Option, length, get_or, drop, reverse, sym, ap, subst, arith, append_assoc}
 use Rattle.std.proofs.lemmas.List.{append-nil}
 use Rattle.el_chain.specs.declared.coin.Coin.{Coin}
-use Rattle.el_rows.specs.Transaction.{tables_in}
+use Rattle.el_rows.specs.Transaction.{with_edits}
 use Rattle.el_rows.proofs.TransactionLemmas.{more}
 use Rattle.el_tables.specs.Edits.{no_out}
 use Rattle.el_tables.specs.Lists.{ListedTx, ListedOut}
@@ -9,7 +9,7 @@ use Rattle.el_tables.specs.Tables.{tables_of}
 use Rattle.el_schema.specs.Rows.{Hold, listed_tx, out_fields}
 use Rattle.el_schema.proofs.Held.{count_txs}
 use Rattle.el_schema.proofs.Rows.{found_at, found_within}
-use Rattle.el_queries.specs.within.Histories.{own_coin, own_coins, outs_of, coins_made_by}
+use Rattle.el_queries.specs.within.Histories.{own_coin, own_coins, outs_of_tx, coins_made_by}
 use Rattle.el_queries.proofs.CoinRows.{outs_long, out_at}
 use Rattle.el_queries.proofs.OwnCoins.{own_before}
 use Rattle.el_queries.proofs.TxRows.{tx_past, tx_of_row, outs_of_row}
@@ -18,7 +18,7 @@ use Rattle.el_queries.proofs.coins.push_coins.Goals as goal
 pub returns-then-tx-count-clause-pushed : goal.returns-then-tx-count-clause-pushed
 returns-then-tx-count-clause-pushed g c counts bs l told hold =
     let script = c.args.script.now in
-    let many = count_txs counts bs l (tables_in {G = g.R.Rows} c.args.t.now) hold in
+    let many = count_txs counts bs l (with_edits {G = g.R.Rows} c.args.t.now) hold in
     let none = tx_past l.txs c.args.tx (omega (arith, many, c.count.ensures.count, c.if-tx-count.true)) in
     sym (append-nil c.args.found.now.items)
     ∙ ap (λ (t : Option ListedTx). c.args.found.now.items ++ reverse (coins_made_by script.number script.row.script l.outs t)) (sym none)
@@ -48,7 +48,7 @@ loop-index-preserved g c = record {
       let k = script.number in
       let s = script.row.script in
       let t = listed_tx c.in_ok-row.row in
-      let xs = outs_of t l.outs in
+      let xs = outs_of_tx t l.outs in
       let x = get_or l.outs (t.first_out + i) no_out in
       let before = subst (λ T. Hold counts bs l T) (sym c.loop-index.invariant.read.tables) hold in
       let read = c.in_ok-output.ensures.row (tables_of counts bs l) told before in
@@ -73,7 +73,7 @@ returns-clause-pushed g c counts bs l told hold =
     let k = script.number in
     let s = script.row.script in
     let t = listed_tx c.in_ok-row.row in
-    let xs = outs_of t l.outs in
+    let xs = outs_of_tx t l.outs in
     let none : c.loop-index.index ≡ 0 = omega (arith, c.loop-index-test.false) in
     c.loop-index.invariant.coins counts bs l told hold
     ∙ ap (λ (j : ℕ). c.args.found.now.items ++ reverse (own_coins k s t j (drop j xs))) none

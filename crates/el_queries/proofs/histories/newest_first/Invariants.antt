@@ -1,6 +1,6 @@
 use Rattle.std.proofs.Common.{◌<◌, ◌≤◌, ◌+◌, List, length, take, filter, sum_by}
 use Rattle.std.specs.Option.{ForSome}
-use Rattle.el_rows.specs.Transaction.{tables_in, reads_in}
+use Rattle.el_rows.specs.Transaction.{with_edits, reads_in}
 use Rattle.el_rows.proofs.TransactionLemmas.{SoFar}
 use Rattle.el_row_formats.specs.declared.table.Table.TheVariants as table
 use Rattle.el_tables.specs.ChainLists.{ListedBlock}
@@ -17,7 +17,7 @@ use Rattle.el_queries.proofs.histories.newest_first.Given as goal
 
 abbrev pub invariant-loop-link : goal.invariant-loop-link
 invariant-loop-link g l =
-    let shown = tables_in {G = g.R.Rows} l.fn.t in
+    let shown = with_edits {G = g.R.Rows} l.fn.t in
     record {
       read : SoFar {G = g.R.Rows} l.fn.t l.t;
       within : ForSome l.link (λ n. n < length (shown table.Entries));

@@ -1,6 +1,6 @@
 use Rattle.std.proofs.Common.{◌∙◌, ◌++◌, List, sym, ap, arith}
 use Rattle.el_chain.specs.declared.entry.Entry.{Entry}
-use Rattle.el_rows.specs.Transaction.{tables_in}
+use Rattle.el_rows.specs.Transaction.{with_edits}
 use Rattle.el_tables.specs.Tables.{tables_of}
 use Rattle.el_schema.proofs.Held.{count_txs}
 use Rattle.el_queries.proofs.TxRows.{shown_past, shown_at}
@@ -8,7 +8,7 @@ use Rattle.el_queries.proofs.histories.push_entry.Goals as goal
 
 pub returns-then-tx-count-clause-pushed : goal.returns-then-tx-count-clause-pushed
 returns-then-tx-count-clause-pushed g c counts bs l told hold =
-    let many = count_txs counts bs l (tables_in {G = g.R.Rows} c.args.t.now) hold in
+    let many = count_txs counts bs l (with_edits {G = g.R.Rows} c.args.t.now) hold in
     shown_past c.args.found.now.items l.txs c.args.tx (omega (arith, many, c.count.ensures.count, c.if-tx-count.true))
 
 pub returns-clause-pushed : goal.returns-clause-pushed

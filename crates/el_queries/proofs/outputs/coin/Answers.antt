@@ -1,5 +1,5 @@
 use Rattle.std.proofs.Common.{sym, subst, ◌∙◌}
-use Rattle.el_rows.specs.Transaction.{tables_in}
+use Rattle.el_rows.specs.Transaction.{with_edits}
 use Rattle.el_tables.specs.Tables.{in_both}
 use Rattle.el_schema.proofs.StandingLemmas.{holds}
 use Rattle.el_tables.specs.ChainLists.{lists, listed_blocks}
@@ -17,7 +17,7 @@ returns-in-Unspent-clause-coin g c chain told stand =
     let counts = in_both stand.0 in
     let bs = listed_blocks chain in
     let l = lists chain in
-    let hold = (holds (tables_in {G = g.R.Rows} c.args.t.now) chain stand).1 in
+    let hold = (holds (with_edits {G = g.R.Rows} c.args.t.now) chain stand).1 in
     let after = subst (λ T. Hold counts bs l T) (sym c.newest_output.ensures.read.tables) hold in
     let named = sym c.in-Some.is ∙ c.in_ok-found.ensures.newest chain told stand in
     let there = parts_there chain o c.in-Some.found named in

@@ -1,5 +1,5 @@
 use Rattle.std.proofs.Common.{arith, sym, subst}
-use Rattle.el_rows.specs.Transaction.{tables_in}
+use Rattle.el_rows.specs.Transaction.{with_edits}
 use Rattle.el_tables.specs.Tables.{tables_of}
 use Rattle.el_schema.specs.Rows.{Hold}
 use Rattle.el_schema.proofs.Held.{count_txs, count_scripts}
@@ -9,7 +9,7 @@ use Rattle.el_queries.proofs.outputs.coin_at.Goals as goal
 
 pub returns-then-row-count-clause-coin : goal.returns-then-row-count-clause-coin
 returns-then-row-count-clause-coin g c counts bs l told hold script_there tx_there =
-    let shown = tables_in {G = g.R.Rows} c.args.t.now in
+    let shown = with_edits {G = g.R.Rows} c.args.t.now in
     let txs = count_txs counts bs l shown hold in
     let scripts = count_scripts counts bs l shown hold in
     elim c.then-row-count.branch [

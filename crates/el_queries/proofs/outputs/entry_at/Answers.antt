@@ -1,5 +1,5 @@
 use Rattle.std.proofs.Common.{◌≤◌, length, arith}
-use Rattle.el_rows.specs.Transaction.{tables_in}
+use Rattle.el_rows.specs.Transaction.{with_edits}
 use Rattle.el_tables.specs.Tables.{tables_of}
 use Rattle.el_schema.proofs.Held.{count_txs}
 use Rattle.el_queries.proofs.Outpoints.{entry_told, past_txs}
@@ -7,7 +7,7 @@ use Rattle.el_queries.proofs.outputs.entry_at.Goals as goal
 
 pub returns-then-n-count-clause-entry : goal.returns-then-n-count-clause-entry
 returns-then-n-count-clause-entry g c counts bs l told hold =
-    let many = count_txs counts bs l (tables_in {G = g.R.Rows} c.args.t.now) hold in
+    let many = count_txs counts bs l (with_edits {G = g.R.Rows} c.args.t.now) hold in
     let le : length l.txs ≤ c.args.n = omega (arith, many, c.count.ensures.count, c.if-n-count.true) in
     past_txs c.args.n l.txs le
 

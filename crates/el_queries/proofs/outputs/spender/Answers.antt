@@ -1,5 +1,5 @@
 use Rattle.std.proofs.Common.{sym, subst, ◌∙◌}
-use Rattle.el_rows.specs.Transaction.{tables_in}
+use Rattle.el_rows.specs.Transaction.{with_edits}
 use Rattle.el_tables.specs.Tables.{in_both}
 use Rattle.el_schema.proofs.StandingLemmas.{holds}
 use Rattle.el_tables.specs.ChainLists.{lists, listed_blocks}
@@ -10,14 +10,14 @@ use Rattle.el_queries.proofs.outputs.spender.Goals as goal
 
 pub returns-in_default-clause-spender : goal.returns-in_default-clause-spender
 returns-in_default-clause-spender g c chain told stand =
-    unnamed_told chain c.args.o.now (holds (tables_in {G = g.R.Rows} c.args.t.now) chain stand).0 (sym c.in_default.is ∙ c.in_ok-found.ensures.newest chain told stand)
+    unnamed_told chain c.args.o.now (holds (with_edits {G = g.R.Rows} c.args.t.now) chain stand).0 (sym c.in_default.is ∙ c.in_ok-found.ensures.newest chain told stand)
 
 pub returns-in-Spent-clause-spender : goal.returns-in-Spent-clause-spender
 returns-in-Spent-clause-spender g c chain told stand =
     let counts = in_both stand.0 in
     let bs = listed_blocks chain in
     let l = lists chain in
-    let both = holds (tables_in {G = g.R.Rows} c.args.t.now) chain stand in
+    let both = holds (with_edits {G = g.R.Rows} c.args.t.now) chain stand in
     let after = subst (λ T. Hold counts bs l T) (sym c.newest_output.ensures.read.tables) both.1 in
     let named = sym c.in-Some.is ∙ c.in_ok-found.ensures.newest chain told stand in
     if_ok c.entry_at.result (c.entry_at.ensures.entry counts bs l told after)
@@ -25,5 +25,5 @@ returns-in-Spent-clause-spender g c chain told stand =
 
 pub returns-in_default-state-clause-spender : goal.returns-in_default-state-clause-spender
 returns-in_default-state-clause-spender g c chain told stand =
-    unspent_told chain c.args.o.now c.in-Some.found (holds (tables_in {G = g.R.Rows} c.args.t.now) chain stand).0 (sym c.in-Some.is ∙ c.in_ok-found.ensures.newest chain told stand)
+    unspent_told chain c.args.o.now c.in-Some.found (holds (with_edits {G = g.R.Rows} c.args.t.now) chain stand).0 (sym c.in-Some.is ∙ c.in_ok-found.ensures.newest chain told stand)
     c.in_default-state.not-Spent

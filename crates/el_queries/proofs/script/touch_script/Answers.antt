@@ -2,7 +2,7 @@ use Rattle.std.proofs.Common.{◌||◌, Bool, ap, sym, ◌∙◌, arith}
 use Rattle.std.specs.List.{list_any}
 use Rattle.el_chain.specs.Headers.{same_hash}
 use Rattle.el_chain.proofs.TouchLemmas.{any_added, or_nothing}
-use Rattle.el_rows.specs.Transaction.{tables_in}
+use Rattle.el_rows.specs.Transaction.{with_edits}
 use Rattle.el_tables.specs.Tables.{tables_of}
 use Rattle.el_schema.proofs.Held.{count_scripts}
 use Rattle.el_queries.specs.within.LastBlock.{is_at}
@@ -11,7 +11,7 @@ use Rattle.el_queries.proofs.script.touch_script.Goals as goal
 
 pub returns-then-n-count-clause-touched : goal.returns-then-n-count-clause-touched
 returns-then-n-count-clause-touched g c counts bs l s told hold =
-    let many = count_scripts counts bs l (tables_in {G = g.R.Rows} c.args.t.now) hold in
+    let many = count_scripts counts bs l (with_edits {G = g.R.Rows} c.args.t.now) hold in
     or_nothing (list_any (same_hash s) c.args.touched.now) (is_at s l.scripts c.args.n) (script_past s l.scripts c.args.n (omega (arith, many, c.count.ensures.count, c.if-n-count.true)))
 
 pub returns-clause-touched : goal.returns-clause-touched

@@ -2,7 +2,7 @@ use Rattle.std.proofs.Common.{◌≡◌, ◌-◌, length, ap, ◌∙◌, arith}
 use Rattle.std.proofs.lemmas.List.{length-map}
 use Rattle.el_row_formats.specs.declared.table.Table.TheVariants as table
 use Rattle.el_row_formats.specs.RowBytes.{block_row_bytes}
-use Rattle.el_rows.specs.Transaction.{tables_in}
+use Rattle.el_rows.specs.Transaction.{with_edits}
 use Rattle.el_tables.specs.ChainLists.{ListedBlock}
 use Rattle.el_tables.specs.Tables.{tables_of}
 use Rattle.el_schema.specs.Rows.{block_fields}
@@ -11,7 +11,7 @@ use Rattle.el_queries.proofs.touching.first_tx.Goals as goal
 
 pub returns-clause-first : goal.returns-clause-first
 returns-clause-first g c counts bs l told hold =
-    let shown = tables_in {G = g.R.Rows} c.args.t.now in
+    let shown = with_edits {G = g.R.Rows} c.args.t.now in
     let count = c.count-count.result in
     let some = c.if-count-eq0.false in
     let many = c.count-count.ensures.count in

@@ -5,7 +5,7 @@ use Rattle.el_chain.specs.Headers.{same_hash}
 use Rattle.el_chain.specs.History.{positions}
 use Rattle.el_chain.specs.Touches.{touches_any}
 use Rattle.el_chain.proofs.TouchLemmas.{or_nothing}
-use Rattle.el_rows.specs.Transaction.{tables_in}
+use Rattle.el_rows.specs.Transaction.{with_edits}
 use Rattle.el_tables.specs.ChainLists.{lists, listed_blocks}
 use Rattle.el_tables.proofs.Numbering.{length_txs}
 use Rattle.el_tables.specs.Tables.{in_both}
@@ -18,7 +18,7 @@ use Rattle.el_queries.proofs.touching.touch_blocks.Goals as goal
 pub returns-then-first_tx-count-clause-touched : goal.returns-then-first_tx-count-clause-touched
 returns-then-first_tx-count-clause-touched g c base bs before s told stand was txs entries =
     let all = base ++ bs in
-    let shown = tables_in {G = g.R.Rows} c.args.t.now in
+    let shown = with_edits {G = g.R.Rows} c.args.t.now in
     let now = count_txs (in_both stand.0) (listed_blocks all) (lists all) shown (holds shown all stand).1 in
     let then = count_txs (in_both was.0) (listed_blocks base) (lists base) before (holds before base was).1 in
     let few = length_txs 0 0 (positions all) in
@@ -28,7 +28,7 @@ returns-then-first_tx-count-clause-touched g c base bs before s told stand was t
 pub returns-clause-touched : goal.returns-clause-touched
 returns-clause-touched g c base bs before s told stand was txs entries =
     let all = base ++ bs in
-    let shown = tables_in {G = g.R.Rows} c.args.t.now in
+    let shown = with_edits {G = g.R.Rows} c.args.t.now in
     let hold = (holds shown all stand).1 in
     let held = (holds before base was).1 in
     let now = count_txs (in_both stand.0) (listed_blocks all) (lists all) shown hold in

@@ -4,7 +4,7 @@ use Rattle.el_chain.specs.Headers.{same_hash}
 use Rattle.el_tables.specs.Tables.{numbers_from}
 use Rattle.el_schema.specs.Rows.{Hold}
 use Rattle.el_schema.proofs.Rows.{on_success}
-use Rattle.el_queries.specs.within.LastBlock.{is_entry_of, buries}
+use Rattle.el_queries.specs.within.LastBlock.{is_entry_of_script, buries}
 use Rattle.el_queries.proofs.Walks.{or_assoc}
 use Rattle.el_queries.proofs.touching.touch_from.Goals as goal
 
@@ -14,7 +14,7 @@ returns-clause-touched g c counts bs l s before own told hold some split last la
     let old = list_any (same_hash s) c.args.touched.now in
     let mid = list_any (same_hash s) c.touch_entries.new.touched in
     let now = list_any (same_hash s) c.touch_all_buried.new.touched in
-    let mine = list_any (is_entry_of s l) own in
+    let mine = list_any (is_entry_of_script s l) own in
     let buried = list_any (buries s l) (numbers_from c.args.first (length l.txs - c.args.first)) in
     let entries = c.in_ok-touch_entries.ensures.touched counts bs l s before own told hold split last late in
     on_success (now ≡ (mid || buried)) (now ≡ (old || (mine || buried))) c.touch_all_buried.result

@@ -2,7 +2,7 @@ use Rattle.std.proofs.Common.{◌≡◌, ◌+◌, ◌||◌, ◌++◌, ◌∷◌,
 use Rattle.std.specs.List.{list_any}
 use Rattle.el_chain.specs.Headers.{same_hash}
 use Rattle.el_chain.specs.History.{positions}
-use Rattle.el_rows.specs.Transaction.{tables_in}
+use Rattle.el_rows.specs.Transaction.{with_edits}
 use Rattle.el_tables.specs.ChainLists.{lists, listed_blocks}
 use Rattle.el_tables.specs.Tables.{in_both}
 use Rattle.el_schema.specs.Rows.{Hold}
@@ -15,14 +15,14 @@ use Rattle.el_queries.proofs.touching.touch_last.Goals as goal
 pub returns-in_default-clause-touched : goal.returns-in_default-clause-touched
 returns-in_default-clause-touched g c chain b s told stand =
     let all = chain ++ b ∷ [] in
-    let hold = (holds (tables_in {G = g.R.Rows} c.args.t.now) all stand).1 in
+    let hold = (holds (with_edits {G = g.R.Rows} c.args.t.now) all stand).1 in
     none_first _ chain b (sym c.in_default.is ∙ c.in_ok-first.ensures.first (in_both stand.0) (listed_blocks all) (lists all) told hold)
 
 pub returns-clause-touched : goal.returns-clause-touched
 returns-clause-touched g c chain b s told stand =
     let all = chain ++ b ∷ [] in
-    let shown = tables_in {G = g.R.Rows} c.first_tx.new.t in
-    let hold = (holds (tables_in {G = g.R.Rows} c.args.t.now) all stand).1 in
+    let shown = with_edits {G = g.R.Rows} c.first_tx.new.t in
+    let hold = (holds (with_edits {G = g.R.Rows} c.args.t.now) all stand).1 in
     let first : Some c.in-Some.first ≡ Some (length (positions chain)) =
     sym c.in-Some.is ∙ c.in_ok-first.ensures.first (in_both stand.0) (listed_blocks all) (lists all) told hold ∙ last_first chain b in
     let tells = subst (TellsLast s chain b) (all_told first) (last_told s chain b) in

@@ -4,7 +4,7 @@ use Rattle.el_outside.specs.Disk.{Image}
 use Rattle.el_rows.specs.Changes.{count_at}
 use Rattle.el_pages.specs.Records.{writes_of}
 use Rattle.el_recovery.specs.Checks.{IsBadChange}
-use Rattle.el_recovery.specs.within.Checking.{IsChecked}
+use Rattle.el_recovery.specs.within.Checking.{IsBodyChecked}
 use Rattle.el_recovery.proofs.Bodies.{checked_none, checked_all}
 use Rattle.el_recovery.proofs.Settles.{reads_on}
 use Rattle.el_recovery.proofs.checking.check_body.Goals as goal
@@ -16,7 +16,7 @@ loop-at-init g c = record {
   checked = λ told body stale has. let l = c.args.layout.now in (
     [],
     drop l.meta body,
-    subst (λ (s : Image). IsChecked l s body stale (9 + l.meta) (9 + c.args.len) [] (drop l.meta body) (count_at c.in_ok-reach.reach)) (sym (c.file_sizes.ensures.seen told))
+    subst (λ (s : Image). IsBodyChecked l s body stale (9 + l.meta) (9 + c.args.len) [] (drop l.meta body) (count_at c.in_ok-reach.reach)) (sym (c.file_sizes.ensures.seen told))
         (checked_none l (g.D.Disk.seen c.args.disk.now) c.args.len (9 + l.meta) (9 + c.args.len) body stale (count_at c.in_ok-reach.reach) has (λ t. c.in_ok-reach.ensures.sizes told t) refl refl),
   );
   seen = λ told. c.file_sizes.ensures.seen told;
@@ -34,7 +34,7 @@ loop-at-preserved g c =
       checked = λ told body stale has. let l = c.args.layout.now in
           let now = was.checked told body stale has in
           let next = c.in_ok-at.ensures.next told body stale now.1 now.0 now.2 in
-          (next.0, next.1, subst (λ (s : Image). IsChecked l s body stale c.in_ok-at.at (9 + c.args.len) next.0 next.1 (count_at c.check_change.new.reach)) (sym (c.check_change.ensures.seen told)) next.2);
+          (next.0, next.1, subst (λ (s : Image). IsBodyChecked l s body stale c.in_ok-at.at (9 + c.args.len) next.0 next.1 (count_at c.check_change.new.reach)) (sym (c.check_change.ensures.seen told)) next.2);
       seen = λ told. c.check_change.ensures.seen told ∙ was.seen told;
       crash = λ told. reads_on g.D.Disk (λ d t u i le left. g.met.D.Disk.earlier d t u i told le left) c.args.disk.now c.loop-at.disk c.check_change.new.disk (was.crash told) (c.check_change.ensures.crash told);
       calls = omega (arith, was.calls, c.check_change.ensures.called, c.in_ok-at.ensures.further);
@@ -63,7 +63,7 @@ returns-clause-ok g c told body stale has =
     let l = c.args.layout.now in
     let was = c.loop-at.invariant in
     let now = was.checked told body stale has in
-    let checked = subst (λ (s : Image). IsChecked l s body stale c.loop-at.at (9 + c.args.len) now.0 now.1 (count_at c.loop-at.reach)) (was.seen told) now.2 in
+    let checked = subst (λ (s : Image). IsBodyChecked l s body stale c.loop-at.at (9 + c.args.len) now.0 now.1 (count_at c.loop-at.reach)) (was.seen told) now.2 in
     (writes_of l checked.meta now.0, checked_all l (g.D.Disk.seen c.args.disk.now) body stale c.loop-at.at (9 + c.args.len) now.0 now.1 (count_at c.loop-at.reach) checked c.args.len has c.loop-at-test.false)
 
 pub returns-in_err-reach-clause-bad : goal.returns-in_err-reach-clause-bad

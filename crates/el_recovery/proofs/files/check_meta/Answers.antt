@@ -3,7 +3,7 @@ use Rattle.std.proofs.lemmas.Result.{err_from_is_err_and}
 use Rattle.std.proofs.Math.Path.{fun_ext}
 use Rattle.el_row_formats.specs.declared.table.Table.{Table}
 use Rattle.el_pages.specs.declared.layout.TheConstants.{FORMAT_2}
-use Rattle.el_recovery.specs.Checks.{count_told, HasHeads, IsBadHeads, IsBadCount}
+use Rattle.el_recovery.specs.Checks.{count_told, HasHeadOfEachBucket, IsBadHeads, IsBadCount}
 use Rattle.el_recovery.proofs.Metas.{meta_is}
 use Rattle.el_recovery.proofs.files.check_meta.Goals as goal
 
@@ -31,7 +31,7 @@ returns-in_err-check_counts-clause-bad c =
     let bad = c.in_err-check_counts.ensures.bad in
     let same = fun_ext (λ (t : Table). c.read_counts-counts.ensures t) in
     let bits = (c.in_ok-bits.ensures.bits).0 in
-    (bad.0, bad.1, inr (c.in_ok-bits.ensures.ok, inr (subst (λ b. HasHeads b (count_told FORMAT_2 c.args.meta.now)) bits (subst (λ (count : Table → ℕ). HasHeads c.in_ok-bits.bits count) same c.in_ok-check_heads.ensures.ok), subst (λ (count : Table → ℕ). IsBadCount FORMAT_2 count bad.0) same bad.2)))
+    (bad.0, bad.1, inr (c.in_ok-bits.ensures.ok, inr (subst (λ b. HasHeadOfEachBucket b (count_told FORMAT_2 c.args.meta.now)) bits (subst (λ (count : Table → ℕ). HasHeadOfEachBucket c.in_ok-bits.bits count) same c.in_ok-check_heads.ensures.ok), subst (λ (count : Table → ℕ). IsBadCount FORMAT_2 count bad.0) same bad.2)))
     )
 
 pub returns-clause-told : goal.returns-clause-told

@@ -3,7 +3,7 @@ use Rattle.std.proofs.lemmas.Result.{err_from_is_err_and}
 use Rattle.el_outside.specs.Disk.{Image}
 use Rattle.el_outside.specs.Moments.{LeftNow}
 use Rattle.el_outside.specs.declared.archive.TheConstants.{SIZE_LIMIT}
-use Rattle.el_redone.specs.Redone.{StandsFor}
+use Rattle.el_redone.specs.Redone.{ImageStandsFor}
 use Rattle.el_redone.proofs.Runs.{now_has}
 use Rattle.el_pages.specs.Layouts.{redo_of}
 use Rattle.el_pages.specs.Records.{Spells}
@@ -159,7 +159,7 @@ returns-clause-stands g c told =
     (still_on_disk g.D.Disk (λ d t u i le left. g.met.D.Disk.earlier d t u i told le left) l old (c.requires.on_disk told) (c.requires.redo_on_disk told) (c.requires.root_on_disk told) mid read same)
     (still_redo_on_disk g.D.Disk (λ d t u i le left. g.met.D.Disk.earlier d t u i told le left) l old (c.requires.on_disk told) (c.requires.redo_on_disk told) (c.requires.root_on_disk told) mid read same)
     (still_root_on_disk g.D.Disk (λ d t u i le left. g.met.D.Disk.earlier d t u i told le left) l old (c.requires.on_disk told) (c.requires.redo_on_disk told) (c.requires.root_on_disk told) mid read same) in
-    subst (λ (s : Image). StandsFor (Spells l) l.first (redo_of l) (g.D.Disk.seen c.redo.new.disk) s) same
+    subst (λ (s : Image). ImageStandsFor (Spells l) l.first (redo_of l) (g.D.Disk.seen c.redo.new.disk) s) same
     (stands_redone l (g.D.Disk.seen mid) (g.D.Disk.seen c.redo.new.disk) c.in-Some.len rec.0 rec.1 rec.2 rec.3 done.2)
 
 pub returns-in_err-len-clause-only : goal.returns-in_err-len-clause-only

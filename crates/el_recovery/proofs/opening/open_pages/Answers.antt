@@ -7,13 +7,13 @@ use Rattle.el_row_formats.specs.declared.table.Table.TheVariants as table
 use Rattle.el_row_formats.specs.Tables.{Tables}
 use Rattle.el_rows.specs.Changes.{count_at}
 use Rattle.el_redo.specs.RedoBody.{head_bytes}
-use Rattle.el_redone.specs.Redone.{StandsFor}
+use Rattle.el_redone.specs.Redone.{ImageStandsFor}
 use Rattle.el_redone.specs.Steps.{Leaves, IsAlike}
 use Rattle.el_pages.specs.declared.layout.TheConstants.{FORMAT_2}
 use Rattle.el_pages.specs.Layouts.{file_of, size_in}
 use Rattle.el_pages.specs.Records.{Spells}
 use Rattle.el_pages.specs.Indexes.{HasCounts, tables_in}
-use Rattle.el_recovery.specs.Checks.{Found, length_told, HasBits, HasHeads, IsIndex, IsBadIndex}
+use Rattle.el_recovery.specs.Checks.{Found, length_told, HasBits, HasHeadOfEachBucket, IsIndex, IsBadIndex}
 use Rattle.el_pages.specs.Stores.{disk_below, live_shows}
 use Rattle.el_pages.proofs.Laid.{length-rows_in}
 use Rattle.el_pages.proofs.StoreLemmas.{beside_at}
@@ -32,12 +32,12 @@ returns-in-Ok-new-clause-crash g c told =
 
 -- ---- what is opened
 
-heads_there : (new : Image) (counts : List ℕ) (bits : ℕ) → HasHeads bits (count_at counts) → HasHeads bits (λ (t : Table). length (tables_in FORMAT_2 new counts t))
+heads_there : (new : Image) (counts : List ℕ) (bits : ℕ) → HasHeadOfEachBucket bits (count_at counts) → HasHeadOfEachBucket bits (λ (t : Table). length (tables_in FORMAT_2 new counts t))
 heads_there new counts bits heads =
-    subst (λ (count : Table → ℕ). HasHeads bits count) (fun_ext (λ (t : Table). sym (length-rows_in (size_in FORMAT_2 t) (new (file_of FORMAT_2 t)) (count_at counts t)))) heads
+    subst (λ (count : Table → ℕ). HasHeadOfEachBucket bits count) (fun_ext (λ (t : Table). sym (length-rows_in (size_in FORMAT_2 t) (new (file_of FORMAT_2 t)) (count_at counts t)))) heads
 
 -- the files that an opening leaves have tables for which the disk stood
-index_of_files : (old new : Image) (m n counts : List ℕ) (bits : ℕ) → StandsFor (Spells FORMAT_2) 20 29 new old → HasCounts FORMAT_2 (head_bytes m bits) new counts → m ≡ n → HasBits bits → HasHeads bits (count_at counts)
+index_of_files : (old new : Image) (m n counts : List ℕ) (bits : ℕ) → ImageStandsFor (Spells FORMAT_2) 20 29 new old → HasCounts FORMAT_2 (head_bytes m bits) new counts → m ≡ n → HasBits bits → HasHeadOfEachBucket bits (count_at counts)
     → IsIndex n old (tables_in FORMAT_2 new counts)
 index_of_files old new m n counts bits stands has magic may_be heads = record {
   bits = bits;
@@ -75,7 +75,7 @@ pub returns-in-Ok-new-clause-heads : goal.returns-in-Ok-new-clause-heads
 returns-in-Ok-new-clause-heads g c =
     let counts = c.in-Ok-new.ensures.counts in
     let heads = c.in-Ok.ensures.heads in
-    subst (λ n. HasHeads n (λ (t : Table). count_at c.in-Ok-new.store.counts t)) (sym c.in-Ok-new.ensures.bits) (counts table.TxHeads ∙ heads.0, counts table.ScriptHeads ∙ heads.1)
+    subst (λ n. HasHeadOfEachBucket n (λ (t : Table). count_at c.in-Ok-new.store.counts t)) (sym c.in-Ok-new.ensures.bits) (counts table.TxHeads ∙ heads.0, counts table.ScriptHeads ∙ heads.1)
 
 pub new-requires-clause-least : goal.new-requires-clause-least
 new-requires-clause-least g c = c.in-Ok.ensures.bits.0

@@ -1,7 +1,7 @@
 use Rattle.std.proofs.Common.{◌≡◌, Some, None, sym, ◌∙◌, arith, inl, inr, length}
 use Rattle.el_row_formats.specs.RowBytes.{script_row_bytes, FitsScriptRow}
 use Rattle.el_row_formats.specs.declared.table.Table.TheVariants as table
-use Rattle.el_rows.specs.Transaction.{tables_in}
+use Rattle.el_rows.specs.Transaction.{with_edits}
 use Rattle.el_tables.specs.Tables.{tables_of}
 use Rattle.el_buckets.specs.Buckets.{newest_of}
 use Rattle.el_schema.specs.Rows.{script_fields}
@@ -12,7 +12,7 @@ use Rattle.el_script.proofs.lookup.found_script.Goals as goal
 
 pub returns-in-Some-clause-found : goal.returns-in-Some-clause-found
 returns-in-Some-clause-found g c counts bs l told hold heads =
-    let shown = tables_in {G = g.R.Rows} c.args.t.now in
+    let shown = with_edits {G = g.R.Rows} c.args.t.now in
     let h = c.args.script_hash.now in
     let n = c.in-Some.number in
     let tb = tables_of counts bs l in
@@ -38,7 +38,7 @@ returns-in-None-clause-found g c counts bs l told hold heads =
 
 pub returns-in_err-found-clause-rows : goal.returns-in_err-found-clause-rows
 returns-in_err-found-clause-rows g c counts bs l told hold heads =
-    let shown = tables_in {G = g.R.Rows} c.args.t.now in
+    let shown = with_edits {G = g.R.Rows} c.args.t.now in
     elim (some_or_none counts.scripts) [
       | inl zero ↦ (let idle = c.find_row.ensures.idle (count_script_heads counts bs l shown hold ∙ zero) in omega (arith, idle))
       | inr some ↦ c.find_row.ensures.rows counts bs l told hold some
@@ -46,7 +46,7 @@ returns-in_err-found-clause-rows g c counts bs l told hold heads =
 
 pub returns-in-Some-clause-rows : goal.returns-in-Some-clause-rows
 returns-in-Some-clause-rows g c counts bs l told hold heads =
-    let shown = tables_in {G = g.R.Rows} c.args.t.now in
+    let shown = with_edits {G = g.R.Rows} c.args.t.now in
     elim (some_or_none counts.scripts) [
       | inl zero ↦ (let idle = c.find_row.ensures.idle (count_script_heads counts bs l shown hold ∙ zero) in omega (arith, idle))
       | inr some ↦ c.find_row.ensures.rows counts bs l told hold some
@@ -54,7 +54,7 @@ returns-in-Some-clause-rows g c counts bs l told hold heads =
 
 pub returns-in-None-clause-rows : goal.returns-in-None-clause-rows
 returns-in-None-clause-rows g c counts bs l told hold heads =
-    let shown = tables_in {G = g.R.Rows} c.args.t.now in
+    let shown = with_edits {G = g.R.Rows} c.args.t.now in
     elim (some_or_none counts.scripts) [
       | inl zero ↦ (let idle = c.find_row.ensures.idle (count_script_heads counts bs l shown hold ∙ zero) in omega (arith, idle))
       | inr some ↦ c.find_row.ensures.rows counts bs l told hold some

@@ -2,7 +2,7 @@ use Rattle.std.proofs.Common.{◌≡◌, ◌<◌, ◌≤◌, ◌+◌, ◌-◌, �
 use Rattle.el_rows.specs.Changes.{OnTable}
 use Rattle.el_row_formats.specs.RowBytes.{script_row_bytes, entry_row_bytes, FitsScriptRow, FitsEntryRow}
 use Rattle.el_row_formats.specs.Tables.{Tables}
-use Rattle.el_rows.specs.Transaction.{tables_in}
+use Rattle.el_rows.specs.Transaction.{with_edits}
 use Rattle.el_row_formats.specs.declared.table.Table.TheVariants as table
 use Rattle.el_row_formats.specs.declared.entry_row.EntryRow.{EntryRow}
 use Rattle.el_row_formats.specs.declared.script_row.ScriptRow.{ScriptRow}
@@ -17,14 +17,14 @@ use Rattle.el_script.proofs.take_back.take_back_entry.Goals.{in-Some+in_ok-leave
 
 pub returns-then-count-eq0-clause-lists : goal.returns-then-count-eq0-clause-lists
 returns-then-count-eq0-clause-lists g c counts bs l told hold numbered =
-    let shown = tables_in {G = g.R.Rows} c.args.t.now in
+    let shown = with_edits {G = g.R.Rows} c.args.t.now in
     let none : length l.entries ≡ 0 = sym (many_entries counts bs l shown hold) ∙ sym c.count-count.ensures.count ∙ c.if-count-eq0.true in
     subst (λ m. Hold counts bs m shown) (sym (none_shrinks l none)) hold
 
 pub returns-clause-lists : goal.returns-clause-lists
 returns-clause-lists g c counts bs l told hold numbered =
-    let shown = tables_in {G = g.R.Rows} c.args.t.now in
-    let after = tables_in {G = g.R.Rows} c.shrink.new.self in
+    let shown = with_edits {G = g.R.Rows} c.args.t.now in
+    let after = with_edits {G = g.R.Rows} c.shrink.new.self in
     let same = c.entry_row.ensures.read.tables in
     let n = c.count-count.result - 1 in
     let e = c.in_ok-entry.entry in
@@ -35,9 +35,9 @@ returns-clause-lists g c counts bs l told hold numbered =
     elim c.match-if_below.branch [
       | in-Some+in_ok-leave_entry-in-Some w ↦
           let k = w.in-Some.before in
-          let mid = tables_in {G = g.R.Rows} w.leave_entry.new.t in
+          let mid = with_edits {G = g.R.Rows} w.leave_entry.new.t in
           let leave = w.in_ok-leave_entry-in-Some.ensures in
-          let shrunk = subst (λ x. OnTable (tables_in {G = g.R.Rows} x) after table.Entries (take n (tables_in {G = g.R.Rows} x table.Entries))) w.t-is c.shrink.ensures.shrunk in
+          let shrunk = subst (λ x. OnTable (with_edits {G = g.R.Rows} x) after table.Entries (take n (with_edits {G = g.R.Rows} x table.Entries))) w.t-is c.shrink.ensures.shrunk in
           let others : ThreeStay shown after = λ u a b d. shrunk.others u d ∙ leave.others u a ∙ ap (λ (T : Tables). T u) same in
           let there = subst (λ (T : Tables). e.script < length (T table.Scripts) → (r : ScriptRow) → FitsScriptRow r
           → script_row_bytes r ≡ get_or (T table.Scripts) e.script [] → mid table.Scripts ≡ set (T table.Scripts) e.script (script_row_bytes (left_row k r))) same (leave.left told) in
@@ -50,9 +50,9 @@ returns-clause-lists g c counts bs l told hold numbered =
           (shrunk.here ∙ ap (take n) (leave.others table.Entries (λ q. cc) ∙ ap (λ (T : Tables). T table.Entries) same))
           numbered
       | in-None+in_ok-drop_script-in-None w ↦
-          let mid = tables_in {G = g.R.Rows} w.drop_script.new.t in
+          let mid = with_edits {G = g.R.Rows} w.drop_script.new.t in
           let drop = w.in_ok-drop_script-in-None.ensures in
-          let shrunk = subst (λ x. OnTable (tables_in {G = g.R.Rows} x) after table.Entries (take n (tables_in {G = g.R.Rows} x table.Entries))) w.t-is c.shrink.ensures.shrunk in
+          let shrunk = subst (λ x. OnTable (with_edits {G = g.R.Rows} x) after table.Entries (take n (with_edits {G = g.R.Rows} x table.Entries))) w.t-is c.shrink.ensures.shrunk in
           let others : ThreeStay shown after = λ u a b d. shrunk.others u d ∙ drop.others u a b ∙ ap (λ (T : Tables). T u) same in
           let popped = subst (λ (T : Tables). (m : ℕ) (r : ScriptRow) → g.R.Rows.tells → length (T table.Scripts) ≡ m + 1 → FitsScriptRow r
           → script_row_bytes r ≡ get_or (T table.Scripts) m [] → Popped buckets.ScriptHashes r.script m (below m r.next) T mid) same drop.dropped in

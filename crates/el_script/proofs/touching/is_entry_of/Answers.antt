@@ -2,7 +2,7 @@ use Rattle.std.proofs.Common.{◌≡◌, ◌∙◌, ℕ, [], get_or, Option, sym
 use Rattle.el_row_formats.specs.RowBytes.{entry_row_bytes, FitsEntryRow}
 use Rattle.el_row_formats.specs.declared.entry_row.EntryRow.{EntryRow}
 use Rattle.el_row_formats.specs.declared.table.Table.TheVariants as table
-use Rattle.el_rows.specs.Transaction.{tables_in}
+use Rattle.el_rows.specs.Transaction.{with_edits}
 use Rattle.el_schema.proofs.Answered.{of_value}
 use Rattle.el_tables.specs.Edits.{tx_of_last}
 use Rattle.el_tables.specs.Lists.{is_tx}
@@ -11,7 +11,7 @@ use Rattle.el_script.proofs.touching.is_entry_of.Goals as goal
 
 pub returns-in_ok-row-in-Some-clause-is : goal.returns-in_ok-row-in-Some-clause-is
 returns-in_ok-row-in-Some-clause-is g c counts bs l d told hold =
-    let shown = tables_in {G = g.R.Rows} c.args.t.now in
+    let shown = with_edits {G = g.R.Rows} c.args.t.now in
     let n = c.in-Some.n in
     let row = c.in_ok-row-in-Some.row in
     let tx = c.args.tx in

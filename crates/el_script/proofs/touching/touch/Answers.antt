@@ -3,7 +3,7 @@ use Rattle.el_base.specs.declared.hash.Hash32.{Hash32}
 use Rattle.el_chain.specs.declared.fault.ConnectFault.{ConnectFault}
 use Rattle.el_chain.specs.declared.fault.ConnectFault.TheVariants as connect
 use Rattle.el_row_formats.specs.Tables.{Tables}
-use Rattle.el_rows.specs.Transaction.{tables_in}
+use Rattle.el_rows.specs.Transaction.{with_edits}
 use Rattle.el_row_formats.specs.declared.table.Table.TheVariants as table
 use Rattle.el_tables.specs.Lists.{add_entry}
 use Rattle.el_tables.proofs.Scripts.{number_next}
@@ -16,8 +16,8 @@ use Rattle.el_script.proofs.touching.touch.Goals as goal
 
 pub returns-in_ok-add_script-in-None-clause-lists : goal.returns-in_ok-add_script-in-None-clause-lists
 returns-in_ok-add_script-in-None-clause-lists g c counts bs l told hold fits some =
-    let shown = tables_in {G = g.R.Rows} c.args.t.now in
-    let after = tables_in {G = g.R.Rows} c.add_script.new.t in
+    let shown = with_edits {G = g.R.Rows} c.args.t.now in
+    let after = with_edits {G = g.R.Rows} c.add_script.new.t in
     let same = c.find.ensures.read.tables in
     let s = c.args.s.now in
     let next = c.in-Ok.found.head in
@@ -28,15 +28,15 @@ returns-in_ok-add_script-in-None-clause-lists g c counts bs l told hold fits som
 
 pub returns-in_ok-add_script-in-None-clause-number : goal.returns-in_ok-add_script-in-None-clause-number
 returns-in_ok-add_script-in-None-clause-number g c counts bs l told hold fits some =
-    let shown = tables_in {G = g.R.Rows} c.args.t.now in
+    let shown = with_edits {G = g.R.Rows} c.args.t.now in
     let s = c.args.s.now in
     let fresh = newest_none s l.scripts fits.numbered.once (sym (c.in-Ok.ensures.newest counts bs l told hold some) ∙ c.in-None.is) in
     c.count-count.ensures.count ∙ ap (λ (T : Tables). length (T table.Scripts)) c.find.ensures.read.tables ∙ many_scripts counts bs l shown hold ∙ sym (number_next s l.scripts fresh)
 
 pub returns-in_ok-add_script-in-None-clause-room : goal.returns-in_ok-add_script-in-None-clause-room
 returns-in_ok-add_script-in-None-clause-room g c counts bs l told hold fits some =
-    let after = tables_in {G = g.R.Rows} c.add_script.new.t in
-    let before = tables_in {G = g.R.Rows} c.find.new.t in
+    let after = with_edits {G = g.R.Rows} c.add_script.new.t in
+    let before = with_edits {G = g.R.Rows} c.find.new.t in
     let more = c.in_ok-add_script-in-None.ensures.added in
     let few_scripts = more.few_scripts in
     let few_entries = more.few_entries in
@@ -48,7 +48,7 @@ pub returns-in_ok-touch_number-in-Some-clause-lists : goal.returns-in_ok-touch_n
 returns-in_ok-touch_number-in-Some-clause-lists g c counts bs l told hold fits some =
     let hash = newest_hash c.args.s.now l.scripts c.in-Some.script fits.numbered.once (sym (c.in-Ok.ensures.newest counts bs l told hold some) ∙ c.in-Some.is) in
     let before = subst (λ (T : Tables). Hold counts bs l T) (sym c.find.ensures.read.tables) hold in
-    subst (λ (h : Hash32). Hold counts bs (add_entry h c.args.tx l) (tables_in {G = g.R.Rows} c.touch_number.new.t)) hash (c.in_ok-touch_number-in-Some.ensures.lists counts bs l told before fits)
+    subst (λ (h : Hash32). Hold counts bs (add_entry h c.args.tx l) (with_edits {G = g.R.Rows} c.touch_number.new.t)) hash (c.in_ok-touch_number-in-Some.ensures.lists counts bs l told before fits)
 
 pub returns-in_ok-touch_number-in-Some-clause-number : goal.returns-in_ok-touch_number-in-Some-clause-number
 returns-in_ok-touch_number-in-Some-clause-number g c counts bs l told hold fits some =
@@ -62,7 +62,7 @@ returns-in_ok-touch_number-in-Some-clause-room g c counts bs l told hold fits so
 
 pub returns-in_err-add_script-in-None-clause-full : goal.returns-in_err-add_script-in-None-clause-full
 returns-in_err-add_script-in-None-clause-full g c counts bs l told hold fits some t rows is =
-    let shown = tables_in {G = g.R.Rows} c.args.t.now in
+    let shown = with_edits {G = g.R.Rows} c.args.t.now in
     let e = c.in_err-add_script-in-None.field-0.0 in
     let e_is : e ≡ connect.Full t rows = search (rules, is) in
     let s = c.args.s.now in

@@ -1,6 +1,6 @@
 use Rattle.std.proofs.Common.{◌≡◌}
 use Rattle.std.specs.Prelude.{map}
-use Rattle.el_kept.specs.Tables.{standing, IsTable}
+use Rattle.el_kept.specs.Tables.{undropped, HasEntries}
 use Rattle.el_kept.specs.Listings.{AreListed}
 use Rattle.el_sift.specs.within.Renewal.{settled}
 use Rattle.el_sift.proofs.moving.settle_all.Given as goal
@@ -8,7 +8,7 @@ use Rattle.el_sift.proofs.moving.settle_all.Given as goal
 -- those that are left make the whole
 abbrev pub invariant-loop-takes : goal.invariant-loop-takes
 invariant-loop-takes l = record {
-  table : IsTable l.table (standing l.table.kept.entries);
-  listed : AreListed l.listings (standing l.table.kept.entries);
-  whole : map (settled l.takes-iterator.rest.items) (standing l.table.kept.entries) ≡ map (settled l.fn.changed) (standing l.initial.table.kept.entries);
+  table : HasEntries l.table (undropped l.table.kept.entries);
+  listed : AreListed l.listings (undropped l.table.kept.entries);
+  whole : map (settled l.takes-iterator.rest.items) (undropped l.table.kept.entries) ≡ map (settled l.fn.changed) (undropped l.initial.table.kept.entries);
 }

@@ -1,9 +1,9 @@
 use Rattle.std.proofs.Common.{refl, sym, subst, ◌∙◌, List}
 use Rattle.std.proofs.lemmas.Result.{err_from_is_err_and}
 use Rattle.el_mempool.specs.declared.held.KeptTx.{KeptTx}
-use Rattle.el_mempool.specs.Standing.{StandsFor}
+use Rattle.el_mempool.specs.Standing.{KeptStandFor}
 use Rattle.el_model.specs.declared.fault.QueryFault.TheVariants as stop
-use Rattle.el_kept.specs.Tables.{standing}
+use Rattle.el_kept.specs.Tables.{undropped}
 use Rattle.el_model.proofs.LedgerMoves.{asked_on, asked_none}
 use Rattle.el_kept.proofs.Slots.{Slot}
 use Rattle.el_sift.proofs.Sifts.{AreLeft, left_start, left_some, left_none, none_left, counts_moved}
@@ -19,10 +19,10 @@ loop-slot-init g c =
       is_finite = tt;
       quiet = asked_none d c.args.ledger.now;
       still = refl;
-      told = λ chain told. subst (λ (l : List Slot). KnowsAll chain c.args.confirmed.now (standing l)) (sym (c.into_iter-slot-iterator.ensures.into_iter_gives ∙ c.iter-slot-items.ensures.rest)) told;
+      told = λ chain told. subst (λ (l : List Slot). KnowsAll chain c.args.confirmed.now (undropped l)) (sym (c.into_iter-slot-iterator.ensures.into_iter_gives ∙ c.iter-slot-items.ensures.rest)) told;
       left = λ before chain all over told keeps stood.
           left_start before chain all c.new.result c.new-2.result c.new-3.result c.new-4.result c.args.table.now.kept.entries c.into_iter-slot-iterator.result c.new.ensures c.new-2.ensures c.new-3.ensures c.new-4.ensures
-          (c.into_iter-slot-iterator.ensures.into_iter_gives ∙ c.iter-slot-items.ensures.rest) (subst (λ (l : List KeptTx). StandsFor l before all) (sym over.table.are) over.stands);
+          (c.into_iter-slot-iterator.ensures.into_iter_gives ∙ c.iter-slot-items.ensures.rest) (subst (λ (l : List KeptTx). KeptStandFor l before all) (sym over.table.are) over.stands);
     }
 
 pub loop-slot-preserved-in-Continue-1 : goal.loop-slot-preserved-in-Continue-1
@@ -57,9 +57,9 @@ loop-slot-preserved g c = record {
 
 pub returns-clause-sifted : goal.returns-clause-sifted
 returns-clause-sifted g c = λ before chain all over told keeps stood.
-    none_left before chain all (standing c.args.table.now.kept.entries) c.loop-slot.found.gone c.loop-slot.found.changed c.loop-slot.found.fees c.loop-slot.found.touched
-    (subst (λ (l : List KeptTx). StandsFor l before all) (sym over.table.are) over.stands) c.list-list.ensures.once
-    (subst (λ (l : List Slot). AreLeft before chain all c.loop-slot.found.gone c.loop-slot.found.changed c.loop-slot.found.fees c.loop-slot.found.touched (standing l)) c.in-None.ensures.steps.0
+    none_left before chain all (undropped c.args.table.now.kept.entries) c.loop-slot.found.gone c.loop-slot.found.changed c.loop-slot.found.fees c.loop-slot.found.touched
+    (subst (λ (l : List KeptTx). KeptStandFor l before all) (sym over.table.are) over.stands) c.list-list.ensures.once
+    (subst (λ (l : List Slot). AreLeft before chain all c.loop-slot.found.gone c.loop-slot.found.changed c.loop-slot.found.fees c.loop-slot.found.touched (undropped l)) c.in-None.ensures.steps.0
     (c.loop-slot.invariant.left before chain all over told keeps stood))
 
 pub returns-in_err-sift_one-clause-cause : goal.returns-in_err-sift_one-clause-cause

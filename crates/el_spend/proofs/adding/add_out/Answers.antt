@@ -1,6 +1,6 @@
 use Rattle.std.proofs.Common.{◌≡◌, Option, Some, ℕ, take, option_map, sym, subst, ◌∙◌}
 use Rattle.el_row_formats.specs.RowBytes.{FitsOutRow}
-use Rattle.el_rows.specs.Transaction.{tables_in}
+use Rattle.el_rows.specs.Transaction.{with_edits}
 use Rattle.el_tables.specs.Edits.{new_out, buried}
 use Rattle.el_tables.specs.Lists.{output_number, txid_at, replaced}
 use Rattle.el_tables.specs.Tables.{tables_of}
@@ -33,6 +33,6 @@ returns-clause-lists g c counts bs l told hold some fit =
     let rows = λ (y : NamedOutput) (is : f ≡ Some y). row_appended x tb y.number y.row (coin_number_is l.outs names y (sym is ∙ found)).1 in
     let gone = c.in_ok-bury.ensures.buried (out_appended x tb) told appended rows in
     let named : option_map (λ (y : NamedOutput). y.number) f ≡ replaced a.tx a.index l = coin_names l.outs names f found in
-    let enc = subst (λ (r : Option ℕ). Encode (tables_in {G = g.R.Rows} c.bury.new.t) (buried a.tx r (out_appended x tb))) named gone in
+    let enc = subst (λ (r : Option ℕ). Encode (with_edits {G = g.R.Rows} c.bury.new.t) (buried a.tx r (out_appended x tb))) named gone in
     on_success _ _ c.raise.result (c.raise.ensures.raised (buried a.tx (replaced a.tx a.index l) (out_appended x tb)) told enc (added_fits counts bs l a.tx a.index a.value a.script fit))
-    (λ e. added_hold counts bs l a.tx a.index a.value a.script (tables_in {G = g.R.Rows} c.raise.new.t) e)
+    (λ e. added_hold counts bs l a.tx a.index a.value a.script (with_edits {G = g.R.Rows} c.raise.new.t) e)

@@ -1,7 +1,7 @@
 use Rattle.std.proofs.Common.{◌≡◌, ◌≤◌, ℕ, Option, Some, None, is_some, false, not, length, map, refl, ap, sym, ◌∙◌, arith}
 use Rattle.std.proofs.lemmas.List.{get_or-map, get_or_past, length-map}
 use Rattle.el_chain.specs.Chains.{zero_hash}
-use Rattle.el_rows.specs.Transaction.{tables_in}
+use Rattle.el_rows.specs.Transaction.{with_edits}
 use Rattle.el_row_formats.specs.declared.tx_row.TxRow.{TxRow}
 use Rattle.el_tables.specs.Lists.{ListedTx}
 use Rattle.el_tables.specs.Tables.{tables_of}
@@ -16,7 +16,7 @@ none_of (Some n) e = absurd cc
 
 pub returns-then-tx-count-clause-txid : goal.returns-then-tx-count-clause-txid
 returns-then-tx-count-clause-txid g c counts bs l told hold x is =
-    let many = count_txs counts bs l (tables_in {G = g.R.Rows} c.args.t.now) hold in
+    let many = count_txs counts bs l (with_edits {G = g.R.Rows} c.args.t.now) hold in
     let ids = map (λ (t : ListedTx). t.txid) l.txs in
     let long = length-map l.txs (λ (t : ListedTx). t.txid) in
     let le : length ids ≤ c.args.tx = omega (arith, many, long, c.count.ensures.count, c.if-tx-count.true) in

@@ -2,7 +2,7 @@ use Rattle.std.proofs.Common.{◌≡◌, ℕ, [], set, get_or, slice_get, Some, 
 use Rattle.el_rows.specs.Changes.{OnTable}
 use Rattle.el_row_formats.specs.Tables.{Tables}
 use Rattle.el_row_formats.specs.RowBytes.{FitsScriptRow, script_row_bytes}
-use Rattle.el_rows.specs.Transaction.{tables_in}
+use Rattle.el_rows.specs.Transaction.{with_edits}
 use Rattle.el_row_formats.specs.declared.script_row.ScriptRow.{ScriptRow}
 use Rattle.el_row_formats.specs.declared.table.Table.TheVariants as table
 use Rattle.el_schema.specs.Rows.{script_fields}
@@ -13,8 +13,8 @@ use Rattle.el_spend.proofs.balance.lower.Goals as goal
 
 pub returns-clause-lowered : goal.returns-clause-lowered
 returns-clause-lowered g c tb told same =
-    let shown = tables_in {G = g.R.Rows} c.args.t.now in
-    let after = tables_in {G = g.R.Rows} c.put_script.new.t in
+    let shown = with_edits {G = g.R.Rows} c.args.t.now in
+    let after = with_edits {G = g.R.Rows} c.put_script.new.t in
     let row = c.in_ok-row.row in
     let value = λ (P : ScriptRow → Type 0). of_value P _ c.script_row.result c.map_err.result row c.map_err.ensures.cases c.in_ok-row.ensures.variant c.in_ok-row.was in
     let is = value (λ r. Some r ≡ option_map script_fields (slice_get tb.scripts c.args.script)) (c.script_row.ensures.row tb told same) in
@@ -26,7 +26,7 @@ returns-clause-lowered g c tb told same =
 
 pub returns-clause-bytes : goal.returns-clause-bytes
 returns-clause-bytes g c r told fits lt is =
-    let shown = tables_in {G = g.R.Rows} c.args.t.now in
+    let shown = with_edits {G = g.R.Rows} c.args.t.now in
     let row = c.in_ok-row.row in
     let same : r ≡ row = of_value (λ (x : ScriptRow). (s : ScriptRow) → FitsScriptRow s → script_row_bytes s ≡ get_or (shown table.Scripts) c.args.script [] → s ≡ x) _ c.script_row.result
     c.map_err.result row c.map_err.ensures.cases c.in_ok-row.ensures.variant c.in_ok-row.was (c.script_row.ensures.only told) r fits is in

@@ -1,5 +1,5 @@
 use Rattle.std.proofs.Common.{◌≡◌, ◌<◌, ◌≤◌, ◌+◌, ℕ, List, Option, Some, None, map, take, get_or, ap, ap₂, sym, ◌∙◌, refl, subst, arith}
-use Rattle.el_rows.specs.Transaction.{tables_in, reads_in}
+use Rattle.el_rows.specs.Transaction.{with_edits, reads_in}
 use Rattle.el_row_formats.specs.declared.tx_row.TxRow.{TxRow}
 use Rattle.el_rows.proofs.TransactionLemmas.{begun, more}
 use Rattle.el_tx.specs.declared.types.Outpoint.{Outpoint}
@@ -22,7 +22,7 @@ pub loop-link-init : goal.loop-link-init
 loop-link-init g c =
     let o : Outpoint = record { txid = c.args.txid.now; index = c.args.index } in
     let link = c.in_ok-link.link in
-    let is = λ (counts : HeadCounts) (bs : List ListedBlock) (l : Lists) (told : g.R.Rows.tells) (hold : Hold counts bs l (tables_in {G = g.R.Rows} c.args.t.now)) (some : 0 < counts.txs).
+    let is = λ (counts : HeadCounts) (bs : List ListedBlock) (l : Lists) (told : g.R.Rows.tells) (hold : Hold counts bs l (with_edits {G = g.R.Rows} c.args.t.now)) (some : 0 < counts.txs).
     (let e : link ≡ greatest (has_txid o) l.txs = c.in_ok-link.ensures.newest counts bs l told hold some ∙ newest_is 0 o.txid l.txs in e) in
     record {
       read = begun c.in_ok-link.ensures.read;
@@ -74,9 +74,9 @@ loop-link-preserved g c =
     let n = c.in-Some.n in
     let row = c.in_ok-row.row in
     let next = c.if_below-link.result in
-    let begun = λ (counts : HeadCounts) (bs : List ListedBlock) (l : Lists) (told : g.R.Rows.tells) (hold : Hold counts bs l (tables_in {G = g.R.Rows} c.args.t.now)) (some : 0 < counts.txs).
+    let begun = λ (counts : HeadCounts) (bs : List ListedBlock) (l : Lists) (told : g.R.Rows.tells) (hold : Hold counts bs l (with_edits {G = g.R.Rows} c.args.t.now)) (some : 0 < counts.txs).
     subst (λ (k : Option ℕ). IsOlder o c.args.below no_tx l.txs k) c.in-Some.is (c.loop-link.invariant.walk counts bs l told hold some) in
-    let row_is = λ (counts : HeadCounts) (bs : List ListedBlock) (l : Lists) (told : g.R.Rows.tells) (hold : Hold counts bs l (tables_in {G = g.R.Rows} c.args.t.now)).
+    let row_is = λ (counts : HeadCounts) (bs : List ListedBlock) (l : Lists) (told : g.R.Rows.tells) (hold : Hold counts bs l (with_edits {G = g.R.Rows} c.args.t.now)).
     listed_row counts.txs l.txs n row (c.in_ok-row.ensures.row (tables_of counts bs l) told (subst (λ T. Hold counts bs l T) (sym c.loop-link.invariant.read.tables) hold)) in
     record {
       read = more c.loop-link.invariant.read c.in_ok-row.ensures.read;

@@ -1,6 +1,6 @@
 use Rattle.std.proofs.Common.{◌≡◌, ◌<◌, ◌≤◌, ◌+◌, List, length, map, take, None}
 use Rattle.std.specs.Option.{ForSome}
-use Rattle.el_rows.specs.Transaction.{tables_in, reads_in}
+use Rattle.el_rows.specs.Transaction.{with_edits, reads_in}
 use Rattle.el_rows.proofs.TransactionLemmas.{SoFar}
 use Rattle.el_row_formats.specs.declared.table.Table.TheVariants as table
 use Rattle.el_tables.specs.ChainLists.{ListedBlock}
@@ -16,7 +16,7 @@ use Rattle.el_spend.proofs.lookup.output_number.Given as goal
 
 abbrev pub invariant-loop-link : goal.invariant-loop-link
 invariant-loop-link g l =
-    let shown = tables_in {G = g.R.Rows} l.fn.t in
+    let shown = with_edits {G = g.R.Rows} l.fn.t in
     record {
       read : SoFar {G = g.R.Rows} l.fn.t l.t;
       within : ForSome l.link (λ n. n < length (shown table.Txs));

@@ -3,7 +3,7 @@ use Rattle.std.proofs.lemmas.List.{get_or-map}
 use Rattle.el_chain.specs.Chains.{zero_hash}
 use Rattle.el_tables.specs.Lists.{ListedTx}
 use Rattle.el_tables.specs.Tables.{tables_of}
-use Rattle.el_rows.specs.Transaction.{tables_in}
+use Rattle.el_rows.specs.Transaction.{with_edits}
 use Rattle.el_row_formats.specs.declared.tx_row.TxRow.{TxRow}
 use Rattle.el_schema.proofs.Held.{count_txs, no_tx}
 use Rattle.el_schema.proofs.Rows.{listed_row, row_within}
@@ -16,7 +16,7 @@ past f (x ∷ xs) (suc n) d le = past f xs n d (omega arith)
 
 pub returns-then-tx-count-clause-listed : goal.returns-then-tx-count-clause-listed
 returns-then-tx-count-clause-listed g c counts bs l told hold =
-    let many = count_txs counts bs l (tables_in {G = g.R.Rows} c.args.t.now) hold in
+    let many = count_txs counts bs l (with_edits {G = g.R.Rows} c.args.t.now) hold in
     let le : length l.txs ≤ c.args.tx = omega (arith, many, c.count.ensures.count, c.if-tx-count.true) in
     (past (λ (t : ListedTx). t.txid) l.txs c.args.tx zero_hash le, past (λ (t : ListedTx). t.first_out) l.txs c.args.tx 0 le)
 

@@ -1,6 +1,6 @@
 use Rattle.std.proofs.Common.{◌≡◌, ◌+◌, ◌-◌, ◌≤◌, Some, ℕ, length, option_map, slice_get, get_or, ap, ap₂, sym, subst, ◌∙◌, arith}
 use Rattle.std.proofs.lemmas.List.{length-take-le}
-use Rattle.el_rows.specs.Transaction.{tables_in, reads_in}
+use Rattle.el_rows.specs.Transaction.{with_edits, reads_in}
 use Rattle.el_row_formats.specs.declared.out_row.OutRow.{OutRow}
 use Rattle.el_row_formats.specs.declared.table.Table.TheVariants as table
 use Rattle.el_tables.specs.Disconnecting.{but_last, last, take_back_output}
@@ -18,8 +18,8 @@ use Rattle.el_spend.proofs.taking_back.take_back_out.Goals as goal
 
 pub returns-clause-lists : goal.returns-clause-lists
 returns-clause-lists g c counts bs l told hold some fit =
-    let shown = tables_in {G = g.R.Rows} c.args.t.now in
-    let middle = tables_in {G = g.R.Rows} c.drop_output.new.t in
+    let shown = with_edits {G = g.R.Rows} c.args.t.now in
+    let middle = with_edits {G = g.R.Rows} c.drop_output.new.t in
     let n = c.count-count.result - 1 in
     let row = c.in_ok-row.row in
     let tb = tables_of counts bs l in
@@ -39,12 +39,12 @@ returns-clause-lists g c counts bs l told hold some fit =
     let whole : unburied_lists row.tx n left ≡ take_back_output l = ap₂ (λ (a b : ℕ). unburied_lists a b left) tx number ∙ taken_back l last_out named in
     let fits : BalancesFit (unburied_lists row.tx n left).outs = subst (λ (m : Lists). BalancesFit m.outs) (sym whole) fit in
     on_success _ _ c.unbury.result (c.unbury.ensures.lists counts bs left told gone some fits)
-    (λ enc. subst (λ (m : Lists). Hold counts bs m (tables_in {G = g.R.Rows} c.unbury.new.t)) whole enc)
+    (λ enc. subst (λ (m : Lists). Hold counts bs m (with_edits {G = g.R.Rows} c.unbury.new.t)) whole enc)
 
 pub returns-clause-rows : goal.returns-clause-rows
 returns-clause-rows g c counts bs l x told hold some is_last =
-    let shown = tables_in {G = g.R.Rows} c.args.t.now in
-    let middle = tables_in {G = g.R.Rows} c.drop_output.new.t in
+    let shown = with_edits {G = g.R.Rows} c.args.t.now in
+    let middle = with_edits {G = g.R.Rows} c.drop_output.new.t in
     let n = c.count-count.result - 1 in
     let row = c.in_ok-row.row in
     let tb = tables_of counts bs l in

@@ -1,6 +1,6 @@
 use Rattle.std.proofs.Common.{◌≡◌, ◌+◌, ◌-◌, Option, Some, ℕ, length, option_map, slice_get, get_or, ap, sym, subst, ◌∙◌, arith}
 use Rattle.el_row_formats.specs.Tables.{Tables}
-use Rattle.el_rows.specs.Transaction.{tables_in}
+use Rattle.el_rows.specs.Transaction.{with_edits}
 use Rattle.el_row_formats.specs.declared.in_row.InRow.{InRow}
 use Rattle.el_row_formats.specs.declared.table.Table.TheVariants as table
 use Rattle.el_tables.specs.Disconnecting.{give_back, but_last, last}
@@ -16,9 +16,9 @@ use Rattle.el_spend.proofs.unspending.unspend.Goals as goal
 
 pub returns-clause-lists : goal.returns-clause-lists
 returns-clause-lists g c counts bs l told hold fit =
-    let shown = tables_in {G = g.R.Rows} c.args.t.now in
-    let middle = tables_in {G = g.R.Rows} c.give_back_spent.new.t in
-    let after = tables_in {G = g.R.Rows} c.shrink.new.self in
+    let shown = with_edits {G = g.R.Rows} c.args.t.now in
+    let middle = with_edits {G = g.R.Rows} c.give_back_spent.new.t in
+    let after = with_edits {G = g.R.Rows} c.shrink.new.self in
     let n = c.count-count.result - 1 in
     let row = c.in_ok-row.row in
     let tb = tables_of counts bs l in

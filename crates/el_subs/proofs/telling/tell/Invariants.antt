@@ -4,7 +4,7 @@ use Rattle.el_base.specs.declared.hash.Hash32.{Hash32}
 use Rattle.el_tx.specs.declared.types.Tx.{Tx}
 use Rattle.el_chain.specs.Chains.{Chain}
 use Rattle.el_model.specs.LedgerCalls.{Asked}
-use Rattle.el_mempool.specs.Standing.{StandsFor}
+use Rattle.el_mempool.specs.Standing.{KeptStandFor}
 use Rattle.el_view.specs.Rows.{history_rows}
 use Rattle.el_subs.specs.Told.{status, news, marked, OthersTold, cost_of}
 use Rattle.el_subs.specs.within.Partly.{all_noted, all_news}
@@ -17,7 +17,7 @@ invariant-loop-s g l =
       keys : keys_of l.subs ≡ keys_of l.fn.subs;
       live : d.is_live l.ledger;
       quiet : Asked d l.fn.ledger l.ledger;
-      so_far : (chain : Chain) (kept : List Tx) → d.stands l.fn.ledger chain → StandsFor l.pool.entries chain kept → OthersTold (status chain kept) l.touched l.fn.subs
+      so_far : (chain : Chain) (kept : List Tx) → d.stands l.fn.ledger chain → KeptStandFor l.pool.entries chain kept → OthersTold (status chain kept) l.touched l.fn.subs
           → (l.found.items ++ all_news (status chain kept) (drop l.s-index l.s-items) l.subs ≡ news (status chain kept) l.fn.subs)
           × (all_noted (status chain kept) (drop l.s-index l.s-items) l.subs ≡ marked (status chain kept) l.fn.subs);
       rows : (chain : Chain) → d.stands l.fn.ledger chain

@@ -1,6 +1,6 @@
 use Rattle.std.proofs.Common.{◌∙◌, ◌+◌, subst, sym, arith}
 use Rattle.el_rows.proofs.TransactionLemmas.{more_edits}
-use Rattle.el_rows.specs.Transaction.{tables_in}
+use Rattle.el_rows.specs.Transaction.{with_edits}
 use Rattle.el_tables.specs.Disconnecting.{times, unspend}
 use Rattle.el_tables.specs.Lists.{Lists}
 use Rattle.el_schema.specs.Rows.{Hold}
@@ -15,7 +15,7 @@ loop-done-preserved g c = record {
       let before = c.loop-done.invariant.lists counts bs l told hold fit in
       let one = times_on n unspend l in
       let fits = subst (λ (x : Lists). BalancesFit x.outs) (sym one) (fit (n + 1) (omega (arith, c.loop-done-test.true))) in
-      subst (λ (x : Lists). Hold counts bs x (tables_in {G = g.R.Rows} c.unspend.new.t)) one
+      subst (λ (x : Lists). Hold counts bs x (with_edits {G = g.R.Rows} c.unspend.new.t)) one
       (c.in_ok-unspend.ensures.lists counts bs (times n unspend l) told before fits);
   others = λ u a b d. c.unspend.ensures.others u a b d ∙ c.loop-done.invariant.others u a b d;
   edits = more_edits c.loop-done.invariant.edits c.in_ok-unspend.ensures.edits;

@@ -1,5 +1,5 @@
 use Rattle.std.proofs.Common.{◌≡◌, ◌<◌, ◌≤◌, List}
-use Rattle.el_rows.specs.Transaction.{tables_in}
+use Rattle.el_rows.specs.Transaction.{with_edits}
 use Rattle.el_rows.proofs.TransactionLemmas.{EditedSoFar}
 use Rattle.el_row_formats.specs.declared.table.Table.TheVariants as table
 use Rattle.el_tables.specs.ChainLists.{ListedBlock}
@@ -13,11 +13,11 @@ use Rattle.el_undo.proofs.transaction.disconnect_txs.Given as goal
 -- so many were taken back
 abbrev pub invariant-loop-done : goal.invariant-loop-done
 invariant-loop-done g l =
-    let shown = tables_in {G = g.R.Rows} l.fn.t in
+    let shown = with_edits {G = g.R.Rows} l.fn.t in
     record {
       lists : (counts : HeadCounts) (bs : List ListedBlock) (ls : lists.Lists) → CanUndoAll l.count ls → g.R.Rows.tells → Hold counts bs ls shown → 0 < counts.txs
-          → Hold counts bs (times l.done disconnect_tx ls) (tables_in {G = g.R.Rows} l.t);
-      blocks : tables_in {G = g.R.Rows} l.t table.Blocks ≡ shown table.Blocks;
+          → Hold counts bs (times l.done disconnect_tx ls) (with_edits {G = g.R.Rows} l.t);
+      blocks : with_edits {G = g.R.Rows} l.t table.Blocks ≡ shown table.Blocks;
       edits : EditedSoFar {G = g.R.Rows} l.fn.t l.t;
       within : l.done ≤ l.count;
     }

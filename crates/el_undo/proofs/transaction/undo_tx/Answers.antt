@@ -1,5 +1,5 @@
 use Rattle.std.proofs.Common.{◌≡◌, ◌-◌, ℕ, length, subst, arith, OnOk}
-use Rattle.el_rows.specs.Transaction.{tables_in}
+use Rattle.el_rows.specs.Transaction.{with_edits}
 use Rattle.el_tables.specs.Disconnecting.{times, take_back_output, unspend, take_back_entries}
 use Rattle.el_tables.specs.Lists.{Lists}
 use Rattle.el_schema.specs.Rows.{Hold}
@@ -10,7 +10,7 @@ use Rattle.el_undo.proofs.transaction.undo_tx.Goals as goal
 
 pub returns-clause-lists : goal.returns-clause-lists
 returns-clause-lists g c counts bs l can told hold some outs ins =
-    let shown = tables_in {G = g.R.Rows} c.args.t.now in
+    let shown = with_edits {G = g.R.Rows} c.args.t.now in
     let row = c.args.row.now in
     let m = times row.outs take_back_output l in
     let n = times row.ins unspend m in
@@ -22,4 +22,4 @@ returns-clause-lists g c counts bs l can told hold some outs ins =
     let many = count_txs counts bs l shown hold in
     let at : number ≡ length l.txs - 1 = omega (arith, many, c.count.ensures.count, c.saturating_sub-number.ensures) in
     let four = c.take_back_tx.ensures.lists counts bs (take_back_entries (length n.entries) number n) told three in
-    subst (λ (x : Lists). OnOk c.take_back_tx.result (Hold counts bs x (tables_in {G = g.R.Rows} c.take_back_tx.new.t))) (undone l can.tx row.outs row.ins number can.is_last outs ins at) four
+    subst (λ (x : Lists). OnOk c.take_back_tx.result (Hold counts bs x (with_edits {G = g.R.Rows} c.take_back_tx.new.t))) (undone l can.tx row.outs row.ins number can.is_last outs ins at) four

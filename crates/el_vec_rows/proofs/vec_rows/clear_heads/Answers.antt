@@ -3,7 +3,7 @@ use Rattle.std.proofs.Math.ListN.{length-set}
 use Rattle.std.proofs.lemmas.Bool.{cases_eq}
 use Rattle.std.proofs.lemmas.List.{ext_get_or, get_or-replicate, get_or-set_same, get_or-set_other, length-replicate}
 use Rattle.el_row_formats.specs.RowBytes.{link_bytes}
-use Rattle.el_row_formats.specs.Tables.{tables_of}
+use Rattle.el_row_formats.specs.Tables.{tables_listed}
 use Rattle.el_vec_rows.proofs.vec_rows.clear_heads.Goals as goal
 
 pub loop-i-init : goal.loop-i-init
@@ -13,7 +13,7 @@ pub loop-i-preserved : goal.loop-i-preserved
 loop-i-preserved c =
     let was = c.loop-i.invariant in
     let i = c.loop-i.i in
-    let rows = tables_of c.loop-i.rows c.args.t in
+    let rows = tables_listed c.loop-i.rows c.args.t in
     let within : i < length rows = omega (arith, was.long, c.loop-i-test.true, c.count-i-end.ensures.count) in
     let wrote = c.write.ensures in
     record {
@@ -28,8 +28,8 @@ loop-i-preserved c =
 pub returns-clause-here : goal.returns-clause-here
 returns-clause-here c =
     let all = c.loop-i.invariant in
-    let old = tables_of c.args.rows.now c.args.t in
-    let rows = tables_of c.loop-i.rows c.args.t in
+    let old = tables_listed c.args.rows.now c.args.t in
+    let rows = tables_listed c.loop-i.rows c.args.t in
     let n = length old in
     ext_get_or [] rows (replicate n (link_bytes None)) (all.long ∙ sym (length-replicate n (link_bytes None)))
     (λ j lt. let below : j < n = omega (arith, lt, all.long) in

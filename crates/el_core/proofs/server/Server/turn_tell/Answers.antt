@@ -5,7 +5,7 @@ use Rattle.el_core.proofs.Measured.{told_less}
 use Rattle.el_core.proofs.Numbers.{up_to_told}
 use Rattle.el_core.proofs.Told.{tell_turned}
 use Rattle.std.proofs.Common.{refl, length}
-use Rattle.el_lines.specs.LineStates.{held}
+use Rattle.el_lines.specs.LineStates.{held_bytes}
 use Rattle.el_core.specs.State.{work_of_node, work_of_surplus}
 use Rattle.el_core.proofs.server.Server.turn_tell.Goals as goal
 
@@ -17,7 +17,7 @@ returns-clause-step g c =
 
 pub returns-clause-less : goal.returns-clause-less
 returns-clause-less g c =
-    rw (← c.self.view_is) (told_less _ (work_of_node (held c.self.inside.node.state) (length c.self.inside.holdings.tree) (length c.self.inside.ahead)) c.args.i (work_of_surplus c.self.inside.surplus) c.self.inside.clients c.tell.new.self c.self.inside.speaker
+    rw (← c.self.view_is) (told_less _ (work_of_node (held_bytes c.self.inside.node.state) (length c.self.inside.holdings.tree) (length c.self.inside.ahead)) c.args.i (work_of_surplus c.self.inside.surplus) c.self.inside.clients c.tell.new.self c.self.inside.speaker
     c.tell.ensures.turn (rw (← c.self.view_is) at c.requires.first))
 
 pub returns-clause-numbers : goal.returns-clause-numbers

@@ -1,32 +1,32 @@
 use Rattle.std.proofs.Common.{◌≡◌, ℕ, ◌+◌, ◌≤◌, length, map, true, sym, ◌∙◌, subst, arith, rules}
 use Rattle.el_outside.specs.Trace.{IsNextArrival, was_closed, with_bytes}
 use Rattle.el_fakes.specs.Coming.{SteadyState, next_after}
-use Rattle.el_fakes.specs.Greatest.{greatest}
-use Rattle.el_fakes.specs.Kept.{message_of, closing_of}
+use Rattle.el_fakes.specs.Greatest.{greatest_peer}
+use Rattle.el_fakes.specs.Kept.{trace_message, trace_closing}
 use Rattle.el_fakes.specs.within.Heard.{arrivals_of}
 use Rattle.el_fakes.specs.within.Links.{trace_of}
-use Rattle.el_fakes.specs.within.Peers.{adds, last_after, closed_in}
+use Rattle.el_fakes.specs.within.Peers.{adds, greatest_after, closed_in}
 use Rattle.el_fakes.specs.within.Taking.{steps_from}
 use Rattle.el_fakes.proofs.Arriving.{same_next}
 use Rattle.el_fakes.proofs.PeerLemmas.{arrives, last-arrives, length-peers_after, closed_of}
 use Rattle.el_fakes.proofs.steady_link.SteadyLinkLink.next.Goals as goal
 
-lawful : (c : goal.Joined-self-then) → IsNextArrival (greatest (trace_of c.self.inside)) c.take-taken.result.arrival (last_after c.self.inside.last c.take-taken.result.arrival)
+lawful : (c : goal.Joined-self-then) → IsNextArrival (greatest_peer (trace_of c.self.inside)) c.take-taken.result.arrival (greatest_after c.self.inside.last c.take-taken.result.arrival)
 lawful c =
-    subst (λ (n : ℕ). IsNextArrival n c.take-taken.result.arrival (last_after c.self.inside.last c.take-taken.result.arrival)) c.self.invariant.last c.take-taken.ensures.taken.lawful
+    subst (λ (n : ℕ). IsNextArrival n c.take-taken.result.arrival (greatest_after c.self.inside.last c.take-taken.result.arrival)) c.self.invariant.last c.take-taken.ensures.taken.lawful
 
 greatest_now : (c : goal.Joined-self-then) → c.welcome-self-inside.result
-    ≡ greatest (record { arrivals = arrivals_of c.then.result; messages = map message_of c.self.inside.sent.items; closings = map closing_of c.self.inside.closed.items })
+    ≡ greatest_peer (record { arrivals = arrivals_of c.then.result; messages = map trace_message c.self.inside.sent.items; closings = map trace_closing c.self.inside.closed.items })
 greatest_now c =
     rw (c.then.ensures, c.welcome-self-inside.ensures.last) (
-    last-arrives (arrivals_of c.self.inside.heard) (map message_of c.self.inside.sent.items) (map closing_of c.self.inside.closed.items)
+    last-arrives (arrivals_of c.self.inside.heard) (map trace_message c.self.inside.sent.items) (map trace_closing c.self.inside.closed.items)
     c.self.inside.last c.take-taken.result.arrival c.take-taken.new.buf c.self.invariant.last)
 
 pub invariant_of-self : goal.invariant_of-self
 invariant_of-self c = record {
   peers =
       rw (c.then.ensures, c.welcome-self-inside.ensures.peers) (
-      arrives (arrivals_of c.self.inside.heard) (map message_of c.self.inside.sent.items) (map closing_of c.self.inside.closed.items)
+      arrives (arrivals_of c.self.inside.heard) (map trace_message c.self.inside.sent.items) (map trace_closing c.self.inside.closed.items)
       c.self.inside.peers.items c.take-taken.result.arrival c.take-taken.new.buf _ c.self.invariant.peers (lawful c));
   last = greatest_now c;
   count =
@@ -40,10 +40,10 @@ invariant_of-self c = record {
 
 pub returns-clause-lawful : goal.returns-clause-lawful
 returns-clause-lawful c =
-    let after : last_after c.self.inside.last c.take-taken.result.arrival
-    ≡ greatest (record { arrivals = arrivals_of c.then.result; messages = map message_of c.self.inside.sent.items; closings = map closing_of c.self.inside.closed.items })
+    let after : greatest_after c.self.inside.last c.take-taken.result.arrival
+    ≡ greatest_peer (record { arrivals = arrivals_of c.then.result; messages = map trace_message c.self.inside.sent.items; closings = map trace_closing c.self.inside.closed.items })
     = sym c.welcome-self-inside.ensures.last ∙ greatest_now c in
-    rw (← c.self.view_is) (subst (λ (n : ℕ). IsNextArrival (greatest (trace_of c.self.inside)) c.take-taken.result.arrival n) after (lawful c))
+    rw (← c.self.view_is) (subst (λ (n : ℕ). IsNextArrival (greatest_peer (trace_of c.self.inside)) c.take-taken.result.arrival n) after (lawful c))
 
 pub returns-clause-silent : goal.returns-clause-silent
 returns-clause-silent c p named was =

@@ -5,7 +5,7 @@ use Rattle.el_rows.proofs.UnderLemmas.{length-under}
 use Rattle.el_rows.specs.Changes.{under}
 use Rattle.el_rows.specs.declared.faults.CommitFault.{CommitFault}
 use Rattle.el_row_formats.specs.Tables.{Tables}
-use Rattle.el_rows.specs.Transaction.{tables_in}
+use Rattle.el_rows.specs.Transaction.{with_edits}
 use Rattle.el_rows.proofs.ReadsLemmas.{read_joined}
 use Rattle.std.proofs.lemmas.Result.{err_from_is_err_and}
 use Rattle.el_chain.specs.Moves.{FaultInAt, shorter, target}
@@ -54,7 +54,7 @@ returns-in-Err-DiskFailed-clause-crash_failed g c chain told stand fits failed =
     let mid = c.hash_after.new.t.rows.now in
     let there = under (r.lists mid) c.in_ok-sealed.sealed.counts c.in_ok-sealed.sealed.changes in
     let reads = read_joined r c.args.self.now.rows c.edit.new.t.rows.now mid (rw c.new-txn.ensures.below at c.edit.ensures.edits.only) c.hash_after.ensures.read.only in
-    let done = c.in_ok-edit.ensures.moved heads chain told (same_rows heads _ (tables_in {G = r} c.new-txn.result) chain stand (c.new-txn.ensures.tables told)) fits in
+    let done = c.in_ok-edit.ensures.moved heads chain told (same_rows heads _ (with_edits {G = r} c.new-txn.result) chain stand (c.new-txn.ensures.tables told)) fits in
     let sealed = moved_rows heads p chain c.args.texts.now _ _ there done.0 done.1 (λ t. c.in_ok-sealed.ensures.tables t ∙ ap (λ (T : Tables). T t) c.hash_after.ensures.read.tables) in (
       target p chain done.0,
       inr (done.0, done.1.next, refl),
@@ -70,7 +70,7 @@ returns-in-Ok-clause-moved g c chain told stand fits =
     let mid = c.hash_after.new.t.rows.now in
     let there = under (r.lists mid) c.in_ok-sealed.sealed.counts c.in_ok-sealed.sealed.changes in
     let reads = read_joined r c.args.self.now.rows c.edit.new.t.rows.now mid (rw c.new-txn.ensures.below at c.edit.ensures.edits.only) c.hash_after.ensures.read.only in
-    let done = c.in_ok-edit.ensures.moved heads chain told (same_rows heads _ (tables_in {G = r} c.new-txn.result) chain stand (c.new-txn.ensures.tables told)) fits in
+    let done = c.in_ok-edit.ensures.moved heads chain told (same_rows heads _ (with_edits {G = r} c.new-txn.result) chain stand (c.new-txn.ensures.tables told)) fits in
     let sealed = moved_rows heads p chain c.args.texts.now _ _ there done.0 done.1 (λ t. c.in_ok-sealed.ensures.tables t ∙ ap (λ (T : Tables). T t) c.hash_after.ensures.read.tables) in (
       done.0,
       subst (λ (n : ℕ). AreMoved n p chain c.args.texts.now c.edit.new.touched (r.lists c.commit.new.self) done.0)
@@ -137,4 +137,4 @@ returns-in_err-edit-clause-first_fault g c = λ chain told stand fits.
     err_passed c.from_residual.result (λ e. IsOwn e ⊎ FaultInAt (shorter c.args.plan.now.back chain) c.args.plan.now.forward c.args.texts.now e) c.in_err-edit.field-0.0
     (err_from_is_err_and c.from_residual.result c.from_residual.ensures.1)
     (c.in_err-edit.ensures.first_fault (r.heads c.args.self.now.rows) chain told
-    (same_rows _ _ (tables_in {G = r} c.new-txn.result) chain stand (c.new-txn.ensures.tables told)) fits)
+    (same_rows _ _ (with_edits {G = r} c.new-txn.result) chain stand (c.new-txn.ensures.tables told)) fits)

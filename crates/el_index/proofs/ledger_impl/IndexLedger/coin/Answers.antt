@@ -1,11 +1,11 @@
 use Rattle.std.proofs.Common.{refl}
-use Rattle.el_rows.specs.Transaction.{tables_in}
+use Rattle.el_rows.specs.Transaction.{with_edits}
 use Rattle.el_schema.proofs.StandingLemmas.{same_stand}
 use Rattle.el_index.proofs.Kept.{quiet}
 use Rattle.el_index.proofs.ledger_impl.IndexLedger.coin.Goals as goal
 
 pub returns-clause-coin : goal.returns-clause-coin
-returns-clause-coin g c chain stands = c.in_ok-found.ensures.coin chain stands.told (same_stand (g.R.Rows.lists c.args.self.now.rows) (tables_in {G = g.R.Rows} c.new-txn.result) chain (_, stands.stand) (c.new-txn.ensures.tables stands.told))
+returns-clause-coin g c chain stands = c.in_ok-found.ensures.coin chain stands.told (same_stand (g.R.Rows.lists c.args.self.now.rows) (with_edits {G = g.R.Rows} c.new-txn.result) chain (_, stands.stand) (c.new-txn.ensures.tables stands.told))
 
 pub returns-in_err-found-clause-quiet : goal.returns-in_err-found-clause-quiet
 returns-in_err-found-clause-quiet g c =

@@ -2,7 +2,7 @@ use Rattle.std.proofs.Common.{◌≡◌, ◌∙◌, ◌/◌, Option, ℕ, take, 
 use Rattle.std.proofs.lemmas.List.{length-take}
 use Rattle.el_model.specs.Queries.{blocks_in}
 use Rattle.el_levels.specs.Groups.{group_roots}
-use Rattle.el_levels.specs.Kept.{Kept, block_hashes}
+use Rattle.el_levels.specs.Kept.{KeptTrees, block_hashes}
 use Rattle.el_levels.proofs.ProofLemmas.{staying, all_roots, on_ok}
 use Rattle.el_levels.proofs.levels.Levels.follow.Goals as goal
 
@@ -13,7 +13,7 @@ returns-clause-kept g c = λ chain before stands kept same.
     let few = c.min.ensures in
     let full : c.full_groups-full.result ≡ blocks_in top / 2048 =
     c.full_groups-full.ensures ∙ ap (λ (h : Option ℕ). blocks_in h / 2048) c.height.ensures in
-    let roots : c.self.inside.roots.items ≡ group_roots before = ap (λ (v : Kept). v.roots) c.self.view_is ∙ kept.roots in
+    let roots : c.self.inside.roots.items ≡ group_roots before = ap (λ (v : KeptTrees). v.roots) c.self.view_is ∙ kept.roots in
     let begun =
     staying before hashes c.truncate.new.self.items c.args.same c.min.result (omega (arith, few)) same
     (c.truncate.ensures.items ∙ ap (take c.min.result) roots) in
@@ -38,6 +38,6 @@ returns-clause-rows g c =
     c.full_groups-full.ensures ∙ ap (λ (h : Option ℕ). blocks_in h / 2048) c.height.ensures in
     let few = c.min.ensures in
     let begun = ap length c.truncate.ensures.items ∙ length-take c.min.result c.self.inside.roots.items in
-    let had : length c.self.inside.roots.items ≡ length c.args.self.now.roots = ap (λ (v : Kept). length v.roots) c.self.view_is in
+    let had : length c.self.inside.roots.items ≡ length c.args.self.now.roots = ap (λ (v : KeptTrees). length v.roots) c.self.view_is in
     let rows = c.add_roots.ensures.rows in
     omega (arith, full, few, begun, had, rows)

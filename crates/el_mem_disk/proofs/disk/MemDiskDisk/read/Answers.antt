@@ -1,5 +1,5 @@
 use Rattle.std.proofs.Common.{◌-◌, ℕ, List, length, take, drop, min, ◌∙◌, ap}
-use Rattle.el_mem_disk.specs.Disks.{state_of}
+use Rattle.el_mem_disk.specs.Disks.{disk_state}
 use Rattle.el_mem_disk.proofs.DiskCalls.{files_by, nothing_new, bytes_in}
 use Rattle.el_mem_disk.proofs.disk.MemDiskDisk.read.Goals as goal
 
@@ -7,7 +7,7 @@ pub returns-then-is_refused-clause-seen : goal.returns-then-is_refused-clause-se
 returns-then-is_refused-clause-seen c = ap bytes_in (files_by c.fault.ensures ∙ files_by c.tick-is_refused.ensures.same)
 
 pub returns-then-is_refused-clause-crash : goal.returns-then-is_refused-clause-crash
-returns-then-is_refused-clause-crash c = nothing_new (state_of c.args.self.now).files (state_of c.fault.new.self).files (state_of c.args.self.now).past (state_of c.fault.new.self).past (files_by c.fault.ensures ∙ files_by c.tick-is_refused.ensures.same)
+returns-then-is_refused-clause-crash c = nothing_new (disk_state c.args.self.now).files (disk_state c.fault.new.self).files (disk_state c.args.self.now).past (disk_state c.fault.new.self).past (files_by c.fault.ensures ∙ files_by c.tick-is_refused.ensures.same)
 
 pub returns-clause-count : goal.returns-clause-count
 returns-clause-count c =
@@ -21,4 +21,4 @@ pub returns-clause-seen : goal.returns-clause-seen
 returns-clause-seen c = ap bytes_in (files_by c.tick-is_refused.ensures.same)
 
 pub returns-clause-crash : goal.returns-clause-crash
-returns-clause-crash c = nothing_new (state_of c.args.self.now).files (state_of c.tick-is_refused.new.self).files (state_of c.args.self.now).past (state_of c.tick-is_refused.new.self).past (files_by c.tick-is_refused.ensures.same)
+returns-clause-crash c = nothing_new (disk_state c.args.self.now).files (disk_state c.tick-is_refused.new.self).files (disk_state c.args.self.now).past (disk_state c.tick-is_refused.new.self).past (files_by c.tick-is_refused.ensures.same)

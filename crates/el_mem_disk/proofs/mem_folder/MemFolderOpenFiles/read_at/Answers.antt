@@ -1,12 +1,12 @@
 use Rattle.std.proofs.Common.{◌≤◌, ◌-◌, length, drop, arith, rules}
-use Rattle.el_mem_disk.specs.Disks.{state_of, seen_on}
+use Rattle.el_mem_disk.specs.Disks.{disk_state, seen_on}
 use Rattle.el_mem_disk.proofs.FolderCalls.{absent_same, files_same, end_of, front_of}
 use Rattle.el_mem_disk.proofs.mem_folder.MemFolderOpenFiles.read_at.Goals as goal
 
 pub invariant_of-self : goal.invariant_of-self
 invariant_of-self c = record {
-  absent = absent_same c.args.self.now.made.items (state_of c.args.self.now.disk).files (state_of c.read.new.self).files
-      (files_same c.read.result (state_of c.args.self.now.disk) (state_of c.read.new.self) c.read.ensures.done c.read.ensures.not_done) c.args.self.now.absent;
+  absent = absent_same c.args.self.now.made.items (disk_state c.args.self.now.disk).files (disk_state c.read.new.self).files
+      (files_same c.read.result (disk_state c.args.self.now.disk) (disk_state c.read.new.self) c.read.ensures.done c.read.ensures.not_done) c.args.self.now.absent;
   kept = c.args.self.now.kept;
 }
 

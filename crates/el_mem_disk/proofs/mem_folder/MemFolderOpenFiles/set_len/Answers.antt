@@ -1,6 +1,6 @@
 use Rattle.std.proofs.Common.{◌≡◌, true, rules}
 use Rattle.el_outside.specs.Disk.{Cut}
-use Rattle.el_mem_disk.specs.Disks.{state_of}
+use Rattle.el_mem_disk.specs.Disks.{disk_state}
 use Rattle.el_mem_disk.proofs.FolderCalls.{Listed, absent_after, files_changed, changes_none, changed, cut_not}
 use Rattle.el_mem_disk.proofs.mem_folder.MemFolderOpenFiles.set_len.Goals as goal
 
@@ -10,11 +10,11 @@ returns-then-not-is_made-clause-changes c = λ told f is le. changes_none c.args
 pub invariant_of-self : goal.invariant_of-self
 invariant_of-self c =
     let number = c.args.file.now.number in
-    let old = state_of c.args.self.now.disk in
+    let old = disk_state c.args.self.now.disk in
     let is : Listed number c.args.self.now.made.items ≡ true = search rules in
     record {
-      absent = absent_after c.args.self.now.made.items old.files (state_of c.cut.new.self).files number is
-          (files_changed _ c.cut.result old (state_of c.cut.new.self) number _ _ c.cut.ensures.done c.cut.ensures.not_done) c.args.self.now.absent;
+      absent = absent_after c.args.self.now.made.items old.files (disk_state c.cut.new.self).files number is
+          (files_changed _ c.cut.result old (disk_state c.cut.new.self) number _ _ c.cut.ensures.done c.cut.ensures.not_done) c.args.self.now.absent;
       kept = c.args.self.now.kept;
     }
 

@@ -1,7 +1,7 @@
 use Rattle.std.proofs.Common.{◌≡◌, true, false, sym, ap, ◌∙◌, subst, rules}
 use Rattle.el_outside.specs.Disk.{OnDisk}
 use Rattle.el_outside.specs.Moments.{LeftNow}
-use Rattle.el_mem_disk.specs.Disks.{state_of, seen_on, moment_of, left_on}
+use Rattle.el_mem_disk.specs.Disks.{disk_state, seen_on, moment_of, left_on}
 use Rattle.el_mem_disk.proofs.FolderCalls.{Listed, absent_after, files_settled, settles_idle}
 use Rattle.el_mem_disk.proofs.mem_folder.MemFolderOpenFiles.sync.Goals as goal
 
@@ -20,11 +20,11 @@ returns-then-not-is_listed-clause-settles c = λ told f is. settles_idle c.args.
 pub invariant_of-self : goal.invariant_of-self
 invariant_of-self c =
     let number = c.args.file.now.number in
-    let old = state_of c.args.self.now.disk in
+    let old = disk_state c.args.self.now.disk in
     let is : Listed number c.args.self.now.named.items ≡ true = search rules in
     record {
-      absent = absent_after c.args.self.now.made.items old.files (state_of c.sync.new.self).files number (c.args.self.now.kept number is)
-          (files_settled _ c.sync.result old (state_of c.sync.new.self) number _ c.sync.ensures.done c.sync.ensures.not_done) c.args.self.now.absent;
+      absent = absent_after c.args.self.now.made.items old.files (disk_state c.sync.new.self).files number (c.args.self.now.kept number is)
+          (files_settled _ c.sync.result old (disk_state c.sync.new.self) number _ c.sync.ensures.done c.sync.ensures.not_done) c.args.self.now.absent;
       kept = c.args.self.now.kept;
     }
 

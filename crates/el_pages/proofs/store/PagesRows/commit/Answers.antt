@@ -6,7 +6,7 @@ use Rattle.el_redo.specs.RedoBody.{head_bytes}
 use Rattle.el_redone.specs.Steps.{Leaves, HasRoot}
 use Rattle.el_redone.specs.declared.steps.TheConstants.{ROOT}
 use Rattle.el_pages.specs.declared.layout.TheConstants.{FORMAT_2}
-use Rattle.el_pages.specs.Indexes.{HasCounts, Shows, tables_in}
+use Rattle.el_pages.specs.Indexes.{HasCounts, ShowsTables, tables_in}
 use Rattle.el_pages.specs.Stores.{lists_in}
 use Rattle.el_pages.proofs.Facts.{has_same}
 use Rattle.el_pages.proofs.PageChanges.{agrees_same}
@@ -32,7 +32,7 @@ returns-in-Err-clause-crash g c told =
     let changes = c.args.sealed.now.changes in
     let before : Tables = tables_in FORMAT_2 (g.D.Disk.seen store.disk) store.counts in
     let run = commit_leaves g.D.Disk (head_bytes g.N.NetworkMagic.magic store.bits) store.told.value store.counts store.cache store.disk c.commit_on.new.disk new changes (c.requires.live told)
-    (subst (λ (m : List ℕ). Leaves g.D.Disk (λ image. HasRoot 29 (g.D.Disk.seen store.disk) image × IsEither (Shows FORMAT_2 (head_bytes m c.args.self.now.bits)) before (under before new changes) image) store.disk c.commit_on.new.disk) c.magic.ensures (c.commit_on.ensures.crash told)) in
+    (subst (λ (m : List ℕ). Leaves g.D.Disk (λ image. HasRoot 29 (g.D.Disk.seen store.disk) image × IsEither (ShowsTables FORMAT_2 (head_bytes m c.args.self.now.bits)) before (under before new changes) image) store.disk c.commit_on.new.disk) c.magic.ensures (c.commit_on.ensures.crash told)) in
     let was = lists_in g.D.Disk store.told.value store.counts in
     record {
       later = run.later;
@@ -47,7 +47,7 @@ returns-clause-crash g c told =
     let changes = c.args.sealed.now.changes in
     let before : Tables = tables_in FORMAT_2 (g.D.Disk.seen store.disk) store.counts in
     let run = commit_leaves g.D.Disk (head_bytes g.N.NetworkMagic.magic store.bits) store.told.value store.counts store.cache store.disk c.commit_on.new.disk new changes (c.requires.live told)
-    (subst (λ (m : List ℕ). Leaves g.D.Disk (λ image. HasRoot 29 (g.D.Disk.seen store.disk) image × IsEither (Shows FORMAT_2 (head_bytes m c.args.self.now.bits)) before (under before new changes) image) store.disk c.commit_on.new.disk) c.magic.ensures (c.commit_on.ensures.crash told)) in
+    (subst (λ (m : List ℕ). Leaves g.D.Disk (λ image. HasRoot 29 (g.D.Disk.seen store.disk) image × IsEither (ShowsTables FORMAT_2 (head_bytes m c.args.self.now.bits)) before (under before new changes) image) store.disk c.commit_on.new.disk) c.magic.ensures (c.commit_on.ensures.crash told)) in
     let was = lists_in g.D.Disk store.told.value store.counts in
     record {
       later = run.later;

@@ -1,5 +1,5 @@
 use Rattle.std.proofs.Common.{ap, ◌∙◌}
-use Rattle.el_row_formats.specs.Tables.{Tables, listed}
+use Rattle.el_row_formats.specs.Tables.{Tables, list_of_tables}
 use Rattle.el_rows.proofs.EditsLemmas.{on_err}
 use Rattle.el_vec_rows.proofs.InMemoryLemmas.{shown_grown}
 use Rattle.el_vec_rows.proofs.PlacedLemmas.{resized}
@@ -7,7 +7,7 @@ use Rattle.el_vec_rows.proofs.vec_rows.MemRows.resize.Goals as goal
 
 pub returns-in_err-grow-clause-err : goal.returns-in_err-grow-clause-err
 returns-in_err-grow-clause-err c = on_err c.from_residual.result
-    (ap (λ (tables : Tables). listed tables) (shown_grown c.self.inside.kept c.grow.new.kept c.self.inside.counts c.grow.ensures.grown c.self.invariant.room) ∙ c.self.view_is)
+    (ap (λ (tables : Tables). list_of_tables tables) (shown_grown c.self.inside.kept c.grow.new.kept c.self.inside.counts c.grow.ensures.grown c.self.invariant.room) ∙ c.self.view_is)
 
 pub returns-clause-ok : goal.returns-clause-ok
 returns-clause-ok c = resized c.args.self.now c.self.inside.kept c.grow.new.kept c.self.inside.counts c.args.counts.now c.self.view_is c.self.invariant c.grow.ensures.grown c.in_ok-grow.ensures.enough
