@@ -31,7 +31,7 @@ use el_model::{Ledger, QueryFault};
 use el_outside::{Archive, Peer, Relay, Why};
 use el_relay::Desk;
 use el_replies::{LineReply, reply_line};
-use el_sessions::{Session, Subs};
+use el_sessions::{Session, Subs, Watched};
 use el_side::{Caches, Holdings};
 use el_subs::notify;
 use std::alloc::Global;

@@ -1,6 +1,6 @@
 // What no contract says of audits: a ledger that tells nothing is found out where it drops an entry; and
 // proofs that servers gave are accepted, but none with a changed byte.
-ghost use Rattle.std.specs.Prelude.{◌≡◌, ◌≤◌, ◌<◌, [], None, length, IfOk};
+ghost use Rattle.std.specs.Prelude.{◌≡◌, ◌≤◌, ◌<◌, [], None, Some, length, IfOk};
 
 use crate::laid::{Laid, Made, go, laid_out};
 use el_audit::{Claim, Kind, Report, audit, check_header, check_tx, collect, scripts_of};
@@ -16,7 +16,7 @@ use std::process::Abort;
 use std::test::Fail;
 use std::thread::Threads;
 
-// A ledger that tells nothing. It answers as the plain one in it does, but that it drops the last entry of
+// A ledger that tells no chain. It answers as the plain one in it does, but that it drops the last entry of
 // each history.
 #[derive(Drop)]
 struct Lossy {
@@ -28,7 +28,7 @@ impl Ledger for Lossy {
 
     ghost is_live = { λ l. Unit {0} };
 
-    ghost height = { λ l. None };
+    ghost height = { λ l. Some 0 };
 
     ghost tip = { λ l. None };
 
@@ -61,7 +61,7 @@ impl Ledger for Lossy {
     ghost leaves_own = { λ l chain left told live stands since. absurd told };
 
     fn height(&self) -> Option<u32> {
-        None
+        Some(0)
     }
 
     fn tip(&self) -> Option<Hash32> {

@@ -1,5 +1,5 @@
 -- What each call is answered (Electrum Protocol 1.4.2): the table of methods.
-use Rattle.std.specs.Prelude.{◌≡◌, ◌≢◌, ◌⊎◌, ⊤, negsuc, Bool, true, false, not, if◌then◌else◌, List, [], Option, None, Some, Result, Ok, Err, OnErr, codes}
+use Rattle.std.specs.Prelude.{◌≡◌, ◌≢◌, ◌⊎◌, ⊤, negsuc, Bool, true, false, not, if◌then◌else◌, List, [], Option, None, Some, Result, Ok, Err, IfOk, OnErr, codes}
 use Rattle.serde_json.specs.Data.{Data, null, boolean, number, string, array, no_items, item}
 use Rattle.serde_json.specs.Find.{of_integer}
 use Rattle.el_base.specs.declared.hash.Hash32.{Hash32}
@@ -17,7 +17,7 @@ use Rattle.el_methods.specs.Outcomes.{IsReplyWith, RefusesOnly, TellsNoFiles}
 use Rattle.el_methods.specs.declared.stop.Stop.{Stop}
 use Rattle.el_methods.specs.declared.stop.Stop.TheVariants as stop
 use Rattle.el_calls.specs.Versions.{greatest_shared, text_of}
-use Rattle.el_sessions.specs.Sessions.{Subscription, is_subscribed, unsubscribed}
+use Rattle.el_sessions.specs.Sessions.{Subscription, is_subscribed, subscribed, unsubscribed}
 use Rattle.el_sessions.specs.declared.session.Version.{Version}
 use Rattle.el_calls.specs.declared.call.VersionParts.{VersionParts}
 use Rattle.el_calls.specs.declared.refusal.Refusal.TheVariants as refusal
@@ -128,6 +128,23 @@ MayRefuse s (call.IdFromPos height pos merkle) r =
     (r ≡ refusal.NoSuchHeight) ⊎ (r ≡ refusal.NoSuchPosition)
 MayRefuse s c r = ⊥
 
+-- The client was told some status of the script hash, and then has a subscription to it that was told this
+-- one; the others stay as they were. It isn't one too many.
+pub record HasSubscribed (was : List Subscription) (script_hash : Hash32) (answer : Data)
+    (now : List Subscription) : Type 0 where
+  pub status : Option Hash32
+  pub answer_is : answer ≡ result.told status
+  pub now_is : now ≡ subscribed script_hash status was
+  pub room : result.is_one_too_many was script_hash ≡ false
+
+-- What is kept of the client after an answer to such a call, whatever the chain and the unconfirmed set are:
+-- it is told new tips, it has a subscription, or it is as it was.
+abbrev pub ChangesSession : Session → Call → Data → Session → Type 0
+ChangesSession s call.HeadersSubscribe answer t = t ≡ record s { headers = true }
+ChangesSession s (call.ScriptHashSubscribe script_hash) answer t =
+    HasSubscribed s.subs script_hash answer t.subs × (t ≡ record s { subs = t.subs })
+ChangesSession s c answer t = t ≡ s
+
 -- the answer may be read from the block files
 abbrev pub may_read_files : Call → Bool
 may_read_files (call.TransactionGet id verbose) = not verbose
@@ -164,8 +181,9 @@ IsThere tells side c = IsSure side × tells × HasAsked side.files side.chain c
 
 -- A call is given this over the side; `tells` is that the block files tell what they hold. Whatever the index
 -- stands for, a call that reads neither the chain nor the unconfirmed set is given what is defined, each
--- other one is refused only as it may be, that block files failed or have changed is told only where the
--- answer may be read from them, and where a call has no answer, what is kept of the client stays as it was.
+-- other one is refused only as it may be and changes what is kept of the client only as it may, that block
+-- files failed or have changed is told only where the answer may be read from them, and where a call has no
+-- answer, what is kept of the client stays as it was.
 -- Over a sure side the answer is what is defined, unless it is read from the block files and they may not
 -- have the transaction that is asked for. Where it is read from them, what is kept of the client stays as it
 -- was in any case, and another transaction is never given, whatever they hold. That a call of the block files
@@ -176,6 +194,7 @@ pub record IsGiven (tells : Type 0) (side : Side) (c : Call) (s t : Session) (gi
   pub of_server : reads_chain c ≡ false
       → IsReplyWith (replied side.chain side.kept side.found s c) s t given
   pub refusals : reads_chain c ≡ true → RefusesOnly (MayRefuse s c) given
+  pub changes : reads_chain c ≡ true → IfOk given (λ answer. ChangesSession s c answer t)
   pub alone : may_read_files c ≡ false → TellsNoFiles given
   pub unanswered : OnErr given (t ≡ s)
   pub of_index : IsSure side → reads_files side.kept c ≡ false

@@ -11,7 +11,7 @@ ghost use Rattle.el_side.specs.Caching.{CachesStand, CachesStay};
 ghost use Rattle.el_methods.specs.Archives.{HasAsked};
 ghost use Rattle.el_methods.specs.RowBounds.{rows_read_by};
 ghost use Rattle.el_methods.specs.Outcomes.{IsReplyWith, IsCounted, IsDiskCounted, RefusesOnly, TellsNoFiles, IsPrintableAnswer};
-ghost use Rattle.el_methods.specs.Replied.{replied, reads_chain, reads_files, may_read_files, MayRefuse, GivesOwn, agreed};
+ghost use Rattle.el_methods.specs.Replied.{replied, reads_chain, reads_files, may_read_files, MayRefuse, ChangesSession, GivesOwn, agreed};
 ghost use Rattle.el_calls.specs.Versions.{text_of};
 ghost use Rattle.el_sessions.specs.Watching.{Follows};
 ghost use Rattle.el_methods.specs.declared.stop.Stop.TheVariants as stop;
@@ -125,6 +125,9 @@ pub fn answer<G: Ledger, A: Archive>(
 
     ensures still { (kept : List shape.Tx) → reads_files kept call.now ≡ true → session.new ≡ session.old }
     ensures unanswered { OnErr result (session.new ≡ session.old) }
+    // The client's subscriptions stay in their order, but for the one that the call names.
+    ensures changes { reads_chain call.now ≡ true
+        → IfOk result (λ answer. ChangesSession session.old call.now answer session.new) }
     // What is counted of all clients follows its subscriptions, whatever the ledger stands for.
     ensures watched { Follows session.old.subs session.new.subs watched.old watched.new }
     // What was computed once is still of the chain.

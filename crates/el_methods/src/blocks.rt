@@ -1,5 +1,5 @@
 // Headers from a height on, and the header of the tip.
-ghost use Rattle.std.specs.Prelude.{◌≡◌, ◌+◌, ◌-◌, ◌*◌, ◌^◌, ◌≤◌, ◌<◌, ◌||◌, ◌&&◌, min, nat_le, nat_lt, ℕ, IfOk, IfErr, OnErr, MatchOption, Ok, length};
+ghost use Rattle.std.specs.Prelude.{◌≡◌, ◌+◌, ◌-◌, ◌*◌, ◌^◌, ◌≤◌, ◌<◌, ◌||◌, ◌&&◌, min, nat_le, nat_lt, ℕ, true, IfOk, IfErr, OnOk, OnErr, MatchOption, Ok, length};
 ghost use Rattle.el_outside.specs.Counts.{RoseBy};
 ghost use Rattle.el_chain.specs.Chains.{Chain};
 ghost use Rattle.el_model.specs.LedgerCalls.{Asked};
@@ -259,6 +259,8 @@ pub fn headers_subscribe<G: Ledger>(
         → IsReplyWith (told_tip (defined.headers_subscribe chain)) is_told.old is_told.new result }
     ensures printable { IsPrintableAnswer result }
 
+    // Whatever the ledger stands for.
+    ensures told { OnOk result (is_told.new ≡ true) }
     ensures unanswered { OnErr result (is_told.new ≡ is_told.old) }
     ensures quiet { Asked ⟦<G as Ledger>⟧ ledger.old ledger.new }
 

@@ -7,6 +7,7 @@ ghost use Rattle.el_mempool.specs.Standing.{KeptStandFor};
 ghost use Rattle.el_model.specs.LedgerCalls.{Asked};
 ghost use Rattle.el_methods.specs.Results as defined;
 ghost use Rattle.el_methods.specs.Results.{told, is_one_too_many};
+ghost use Rattle.el_methods.specs.Replied.{HasSubscribed};
 ghost use Rattle.el_view.specs.Rows.{history_rows};
 ghost use Rattle.el_methods.specs.Outcomes.{IsReplyWith, IsDiskCounted, RefusesOnly, IsPrintableAnswer};
 ghost use Rattle.el_calls.specs.declared.refusal.Refusal.TheVariants as refusal;
@@ -53,6 +54,8 @@ pub fn script_hash_subscribe<G: Ledger>(
         → IsReplyWith (defined.script_hash_subscribe chain kept subs.old s) subs.old subs.new result }
     ensures printable { IsPrintableAnswer result }
 
+    // Whatever the ledger and the unconfirmed set stand for.
+    ensures changes { IfOk result (λ answer. HasSubscribed subs.old s answer subs.new) }
     ensures watched { Follows subs.old subs.new watched.old watched.new }
     ensures unanswered { OnErr result (subs.new ≡ subs.old) }
     ensures quiet { Asked ⟦<G as Ledger>⟧ ledger.old ledger.new }

@@ -29,7 +29,9 @@ same_told (Some a) (Some b) e = ap Some (hash_gives a b e)
 first_left : (scripts : List Hash32) (i : ℕ) (d : Hash32) → i < length scripts → drop i scripts ≡ get_or scripts i d ∷ drop (i + 1) scripts
 first_left [] i d lt = absurd (omega (arith, lt))
 first_left (x ∷ xs) zero d lt = refl
-first_left (x ∷ xs) (suc i) d lt = first_left xs i d (omega (arith, lt))
+first_left (x ∷ xs) (suc i) d lt =
+    let e : suc (i + 1) ≡ suc i + 1 = omega (arith) in
+    first_left xs i d (omega (arith, lt)) ∙ ap (λ (n : ℕ). get_or xs i d ∷ drop n (x ∷ xs)) e
 
 pub not_false : (b : Bool) → not b ≡ false → b ≡ true
 not_false true e = refl
@@ -254,7 +256,9 @@ module _ (cost : Hash32 → ℕ) (touched : List Hash32) where
       → cost_of cost touched (drop i scripts) ≡ cost (get_or scripts i d) + cost_of cost touched (drop (i + 1) scripts)
   next_cost [] i d all lt = absurd (omega (arith, lt))
   next_cost (y ∷ ys) zero d all lt = rw all.0 refl
-  next_cost (y ∷ ys) (suc i) d all lt = next_cost ys i d all.1 (omega (arith, lt))
+  next_cost (y ∷ ys) (suc i) d all lt =
+      let e : suc (i + 1) ≡ suc i + 1 = omega (arith) in
+      next_cost ys i d all.1 (omega (arith, lt)) ∙ ap (λ (n : ℕ). cost (get_or ys i d) + cost_of cost touched (drop n (y ∷ ys))) e
 
   pub rows_on : (subs : List Subscription) (scripts : List Hash32) (i : ℕ) (d : Hash32) (a b total : ℕ) → scripts ≡ held_among touched subs → i < length scripts
       → b ≤ a + cost (get_or scripts i d) → a + cost_of cost touched (drop i scripts) ≤ total → b + cost_of cost touched (drop (i + 1) scripts) ≤ total

@@ -25,7 +25,7 @@ loop-s-init g c =
       live = c.requires.live;
       quiet = asked_none d c.args.ledger.now;
       so_far = λ chain kept stood stands others.
-          let h = held_told (status chain kept) c.args.touched.now c.args.subs.now c.held_among-held.ensures.once others in
+          let h = held_told (status chain kept) c.args.touched.now c.args.subs.now c.in_ok-held.ensures.once others in
           rw (c.new-found.ensures.items, are) (h.1, h.0);
       rows = λ chain stood.
           let e = held_cost (cost_at chain (d.buckets c.args.ledger.now)) c.args.touched.now c.args.subs.now in

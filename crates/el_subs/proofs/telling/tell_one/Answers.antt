@@ -17,12 +17,12 @@ returns-else-ne-clause-told g c = λ chain kept stood stands.
     let same : option_eq same_hash c.in_ok-now.now c.in-Some.told ≡ true = not_false _ (sym c.if-ne.ensures) in
     one_same (status chain kept) c.args.s.now c.in-Some.told c.in_ok-now.now c.args.found.now.items c.args.subs.now at same (c.in_ok-now.ensures.status chain kept stood stands)
 
-pub returns-then-ne-clause-told : goal.returns-then-ne-clause-told
-returns-then-ne-clause-told g c = λ chain kept stood stands.
+pub returns-in_ok-push-clause-told : goal.returns-in_ok-push-clause-told
+returns-in_ok-push-clause-told g c = λ chain kept stood stands.
     let at : lookup (same_script c.args.s.now) c.args.subs.now ≡ Some c.in-Some.told = sym c.told.ensures ∙ c.in-Some.is in
     let other : option_eq same_hash c.in_ok-now.now c.in-Some.told ≡ false = not_true _ (sym c.if-ne.ensures) in
     one_told (status chain kept) c.args.s.now c.in-Some.told c.in_ok-now.now c.args.found.now.items c.push.new.self.items c.args.subs.now c.note.new.self
     at other (c.in_ok-now.ensures.status chain kept stood stands) c.in_ok-push.ensures.items c.note.ensures.noted
 
-pub returns-then-ne-clause-keys : goal.returns-then-ne-clause-keys
-returns-then-ne-clause-keys g c = keys_told c.args.s.now c.in-Some.told c.in_ok-now.now c.args.subs.now c.note.new.self (sym c.told.ensures ∙ c.in-Some.is) c.note.ensures.noted
+pub returns-in_ok-push-clause-keys : goal.returns-in_ok-push-clause-keys
+returns-in_ok-push-clause-keys g c = keys_told c.args.s.now c.in-Some.told c.in_ok-now.now c.args.subs.now c.note.new.self (sym c.told.ensures ∙ c.in-Some.is) c.note.ensures.noted
