@@ -10,7 +10,8 @@ usage: .ci/docs.py [PASSED FAILED]    checks; the last line is 'N passed, M fail
 3. Each file and crate that a page names is there, and each name in a crate's README.md stands in its sources, or in those
    of a crate that it names.
 4. Each crate has a README.md and a comment above its line in crates.txt; no page and no line is too long.
-5. Each number of NUMBERS stands on its page as the sources have it, and docs/OPERATING.md has no other large number than
+5. Each planted mistake of planted/ can be made: each text that it takes away stands in its file once.
+6. Each number of NUMBERS stands on its page as the sources have it, and docs/OPERATING.md has no other large number than
    these and those of OTHER_NUMBERS.
 """
 
@@ -378,6 +379,17 @@ def wrong_sizes():
             yield f"crates.txt: no comment on {crate}"
 
 
+def wrong_mistakes():
+    """Planted mistakes that can't be made any more."""
+    folder = os.path.join(TOP, "planted")
+    for crate in sorted(os.listdir(folder)):
+        for edit in sorted(os.listdir(os.path.join(folder, crate))):
+            lines = read("planted", crate, edit).splitlines()
+            text = read("crates", crate, lines[0].removeprefix("file: "))
+            if any(text.count(line.removeprefix("old: ")) != 1 for line in lines if line.startswith("old: ")):
+                yield f"planted/{crate}/{edit}: a text that it takes away doesn't stand in its file once"
+
+
 def constant(crate, name):
     """The value of a constant of a crate; None where it isn't there, or is no number."""
     folder = os.path.join(CRATES, crate, "src")
@@ -412,7 +424,7 @@ def main(given):
             it.write(page)
         return 0
     passed, failed = (int(given[0]), int(given[1])) if len(given) == 2 else (0, 0)
-    for check in (wrong_lists, wrong_rules, wrong_names, wrong_words, wrong_sizes, wrong_numbers):
+    for check in (wrong_lists, wrong_rules, wrong_names, wrong_words, wrong_sizes, wrong_mistakes, wrong_numbers):
         wrong = list(check())
         for line in wrong:
             print(f"docs: {line}")

@@ -466,13 +466,17 @@ pub fn decoded(alloc: Global, texts: &[&str]) -> Option<Vec<Bytes>> {
     Some(list)
 }
 
-/// The world of the blocks of these bytes, of whose block files the call with that number fails; None where
-/// they are no chain.
-pub fn world_of(alloc: Global, list: &[Bytes], failing: u64) -> Option<World> {
-    let Blocks { ledger, tree, file } = blocks_of(alloc, list)?;
-    Some(World {
+// A world over these, at its start. It takes no memory.
+fn world_with(
+    alloc: Global,
+    ledger: PlainLedger,
+    tree: HeaderTree,
+    archive: MemArchive,
+    desk: Desk,
+) -> World {
+    World {
         ledger,
-        archive: archive_of(alloc, file, failing)?,
+        archive,
         holdings: Holdings {
             tree,
             magic: MAGIC,
@@ -486,9 +490,18 @@ pub fn world_of(alloc: Global, list: &[Bytes], failing: u64) -> Option<World> {
             subs: Subs::new(alloc),
         },
         watched: Watched::new(alloc),
-        desk: Desk::new(alloc, false).ok()?,
+        desk,
         relay: MemRelay::new(alloc, Vec::new(alloc), Vec::new(alloc)),
-    })
+    }
+}
+
+/// The world of the blocks of these bytes, of whose block files the call with that number fails; None where
+/// they are no chain.
+pub fn world_of(alloc: Global, list: &[Bytes], failing: u64) -> Option<World> {
+    let desk = Desk::new(alloc, false).ok()?;
+    let Blocks { ledger, tree, file } = blocks_of(alloc, list)?;
+    let archive = archive_of(alloc, file, failing)?;
+    Some(world_with(alloc, ledger, tree, archive, desk))
 }
 
 /// The world of the blocks of these hex digits, of whose block files the call with that number fails.
